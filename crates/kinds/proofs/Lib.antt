@@ -1,0 +1,7 @@
+pub mod Admitted
+pub mod Asked
+pub mod Bounds
+pub mod Everywhere
+pub mod Routes
+pub mod Shipped
+pub mod Sizes

@@ -1,0 +1,9 @@
+pub mod Amounts
+pub mod Direct
+pub mod Indirect
+pub mod Joined
+pub mod Laws
+pub mod Payments
+pub mod Ranges
+pub mod Share
+pub mod Unit

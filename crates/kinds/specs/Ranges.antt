@@ -1,0 +1,12 @@
+-- The numbers of a closing, and of a margin, inside their limits.
+use mathlib.Core.Bool.{Bool, _&&_}
+use Prim.Native.Nat.{ℕ}
+use Rattle.terms.specs.Limits.{price-ok, volume-ok, leverage-ok}
+
+-- opening price, closing price and volume
+abbrev pub closing-ok : ℕ → ℕ → ℕ → Bool
+closing-ok o k v = price-ok o && (price-ok k && volume-ok v)
+
+-- leverage, opening price and volume
+abbrev pub holding-ok : ℕ → ℕ → ℕ → Bool
+holding-ok l o v = leverage-ok l && (price-ok o && volume-ok v)
