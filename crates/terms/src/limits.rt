@@ -3,6 +3,7 @@ ghost use mathlib.Core.Path.{_≡_};
 ghost use Rattle.terms.specs.Limits.{account-ok, instrument-ok, price-ok, volume-ok, leverage-ok, percentage-ok, distance-ok, rate-ok, amount-ok, time-ok, day-ok, ticket-ok, kind-ok, size-ok};
 
 pub const ACCOUNTS: u64 = 8;
+pub const LIVE_TICKETS: usize = 32;
 pub const INSTRUMENTS: u64 = 8;
 pub const LEAST_PRICE: u64 = 1_000;
 pub const MOST_PRICE: u64 = 1_000_000;

@@ -1,0 +1,34 @@
+use mathlib.Core.Path.{_≡_, ap, sym, _∙_}
+use mathlib.Core.List.{List, [], _∷_, _++_}
+use Prim.Native.Nat.{ℕ, _<_}
+use native.Mathlib.Omega.{arith}
+use lib.IntN.{pos}
+use lib.ListN.{length, getD, take}
+use Rattle.std.proofs.shelf.Lists.{length-set, length-map, take-more, take-more-set, take-all, getD-map}
+use Rattle.rules.specs.declared.candidate.Candidate.{Candidate}
+use Rattle.rules.specs.Closing.{tickets}
+use Rattle.rules.proofs.closing.ticket_numbers.Needs as need
+
+-- what a read past the end gives
+abbrev nobody : Candidate
+nobody = record { ticket = 0; result = pos 0; margin = 0 }
+
+pub loop-i-again : need.loop-i-again
+loop-i-again c =
+    let cs = c .args .candidates .now in
+    let i = c .loop-i .i in
+    let ns = c .loop-i .numbers in
+    let y = getD cs i nobody .ticket in
+    let l : i < length cs = omega arith in
+    let long = length-map cs (λ (x : Candidate). x .ticket) in
+    let read : y ≡ getD (tickets cs) i 0 = sym (getD-map (λ (x : Candidate). x .ticket) cs i nobody 0 l) in
+    ( length-set ns i y ∙ c .loop-i .inv .0
+    , take-more-set ns i y (omega (arith, c .loop-i .inv .0)) ∙ ap (λ (f : List ℕ). f ++ (y ∷ [])) (c .loop-i .inv .1)
+      ∙ ap (λ (n : ℕ). take i (tickets cs) ++ (n ∷ [])) read ∙ sym (take-more (tickets cs) i 0 (omega arith)))
+
+pub returns : need.returns
+returns c =
+    let cs = c .args .candidates .now in
+    let long = length-map cs (λ (x : Candidate). x .ticket) in
+    let whole : length cs ≡ c .loop-i .i = omega arith in
+    ap (λ (n : ℕ). take n (c .loop-i .numbers)) whole ∙ c .loop-i .inv .1 ∙ take-all (c .loop-i .i) (tickets cs) (omega arith)
