@@ -1,0 +1,215 @@
+// The check of a submitted instruction's numbers, one function for each instruction.
+ghost use mathlib.Core.Path.{_≡_};
+ghost use mathlib.Core.Bool.{_&&_};
+ghost use Prim.Native.Nat.{_^_, _<_};
+ghost use lib.Dec.{ltb};
+ghost use Rattle.terms.specs.Limits.{price-ok, time-ok};
+ghost use Rattle.instructions.specs.Inside.{optionally, protection-ok, opening-ok, closing-ok, placement-ok, modification-ok};
+ghost use Rattle.instructions.specs.Submitted.{accepted, acceptable, as-numbers, optional, protection-of, opening-of, closing-of, placement-of, modification-of};
+use crate::instruction::Closing;
+use crate::instruction::Instruction;
+use crate::instruction::Modification;
+use crate::instruction::Opening;
+use crate::instruction::Placement;
+use crate::instruction::Protection;
+use crate::submission::Submission;
+use terms::limits::is_distance;
+use terms::limits::is_instrument;
+use terms::limits::is_price;
+use terms::limits::is_ticket;
+use terms::limits::is_time;
+use terms::limits::is_volume;
+use terms::order::OrderType;
+use terms::side::Side;
+
+// No level, or one inside the limits.
+fn is_optional_price(n: u64) -> bool
+    ensures { λ r. ⌜ r ≡ optionally price-ok (optional n) ⌝ }
+{
+    n == 0 || is_price(n)
+}
+
+fn some_unless_zero(n: u64) -> Option<u32>
+    requires { ⌜ n < 2 ^ 32 ⌝ }
+    ensures { λ r. ⌜ r ≡ optional n ⌝ }
+{
+    if n == 0 { None } else { Some(n as u32) }
+}
+
+fn protection(stop_loss: u64, take_profit: u64) -> Option<Protection>
+    ensures { λ r. ⌜ r ≡ accepted protection-ok (protection-of «stop_loss» «take_profit») ⌝ }
+{
+    if is_optional_price(stop_loss) && is_optional_price(take_profit) {
+        Some(Protection {
+            stop_loss: some_unless_zero(stop_loss),
+            take_profit: some_unless_zero(take_profit),
+        })
+    } else {
+        None
+    }
+}
+
+fn opening(
+    instrument: u64,
+    side: Side,
+    volume: u64,
+    price: u64,
+    deviation: u64,
+    stop_loss: u64,
+    take_profit: u64,
+) -> Option<Opening>
+    ensures { λ r. ⌜ r ≡ accepted opening-ok (opening-of instrument side volume price deviation «stop_loss» «take_profit») ⌝ }
+{
+    let protection = protection(stop_loss, take_profit)?;
+    if is_instrument(instrument)
+        && is_volume(volume)
+        && is_price(price)
+        && is_distance(deviation)
+    {
+        Some(Opening {
+            instrument: instrument as u8,
+            side,
+            volume: volume as u32,
+            price: price as u32,
+            deviation: deviation as u32,
+            protection,
+        })
+    } else {
+        None
+    }
+}
+
+fn closing(ticket: u64, volume: u64) -> Option<Closing>
+    ensures { λ r. ⌜ r ≡ accepted closing-ok (closing-of ticket volume) ⌝ }
+{
+    if is_ticket(ticket) && is_volume(volume) {
+        Some(Closing {
+            ticket: ticket as u16,
+            volume: volume as u32,
+        })
+    } else {
+        None
+    }
+}
+
+// No expiry, or one that lies after the present time.
+fn is_optional_expiry(n: u64, time: u32) -> bool
+    ensures { λ r. ⌜ r ≡ (optionally time-ok (optional n) && optionally (ltb time) (optional n)) ⌝ }
+{
+    n == 0 || is_time(n) && (time as u64) < n
+}
+
+fn placement(
+    instrument: u64,
+    order: OrderType,
+    volume: u64,
+    level: u64,
+    stop_loss: u64,
+    take_profit: u64,
+    expiry: u64,
+    time: u32,
+) -> Option<Placement>
+    ensures { λ r. ⌜ r ≡ accepted (λ p. placement-ok p && optionally (ltb time) (p .expiry)) (placement-of instrument order volume level «stop_loss» «take_profit» expiry) ⌝ }
+{
+    let protection = protection(stop_loss, take_profit)?;
+    if is_instrument(instrument)
+        && is_volume(volume)
+        && is_price(level)
+        && is_optional_expiry(expiry, time)
+    {
+        Some(Placement {
+            instrument: instrument as u8,
+            order,
+            volume: volume as u32,
+            level: level as u32,
+            protection,
+            expiry: some_unless_zero(expiry),
+        })
+    } else {
+        None
+    }
+}
+
+fn modification(
+    ticket: u64,
+    level: u64,
+    stop_loss: u64,
+    take_profit: u64,
+) -> Option<Modification>
+    ensures { λ r. ⌜ r ≡ accepted modification-ok (modification-of ticket level «stop_loss» «take_profit») ⌝ }
+{
+    let protection = protection(stop_loss, take_profit)?;
+    if is_ticket(ticket) && is_optional_price(level) {
+        Some(Modification {
+            ticket: ticket as u16,
+            level: some_unless_zero(level),
+            protection,
+        })
+    } else {
+        None
+    }
+}
+
+// The same numbers in narrower types, where all are inside their limits.
+pub fn narrowed(submission: Submission, time: u32) -> Option<Instruction>
+    ensures { λ r. ⌜ r ≡ accepted (acceptable time) (as-numbers submission) ⌝ }
+{
+    match submission {
+        Submission::Open {
+            instrument,
+            side,
+            volume,
+            price,
+            deviation,
+            stop_loss,
+            take_profit,
+        } => Some(Instruction::Open(opening(
+            instrument,
+            side,
+            volume,
+            price,
+            deviation,
+            stop_loss,
+            take_profit,
+        )?)),
+        Submission::Close { ticket, volume } => {
+            Some(Instruction::Close(closing(ticket, volume)?))
+        }
+        Submission::Place {
+            instrument,
+            order,
+            volume,
+            level,
+            stop_loss,
+            take_profit,
+            expiry,
+        } => Some(Instruction::Place(placement(
+            instrument,
+            order,
+            volume,
+            level,
+            stop_loss,
+            take_profit,
+            expiry,
+            time,
+        )?)),
+        Submission::Modify {
+            ticket,
+            level,
+            stop_loss,
+            take_profit,
+        } => Some(Instruction::Modify(modification(
+            ticket,
+            level,
+            stop_loss,
+            take_profit,
+        )?)),
+        Submission::Delete { ticket } => {
+            if is_ticket(ticket) {
+                Some(Instruction::Delete(ticket as u16))
+            } else {
+                None
+            }
+        }
+    }
+}
