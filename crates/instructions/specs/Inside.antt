@@ -4,7 +4,7 @@ use Prim.Native.Nat.{ℕ}
 use Rattle.std.specs.declared.option.Option.{Option}
 use Rattle.std.specs.declared.option.Option.the-variants.{Some, None}
 use Rattle.terms.specs.Limits.{instrument-ok, price-ok, volume-ok, distance-ok, ticket-ok, time-ok}
-use Rattle.instructions.specs.declared.instruction.Protection.{Protection}
+use Rattle.terms.specs.declared.protection.Protection.{Protection}
 use Rattle.instructions.specs.declared.instruction.Opening.{Opening}
 use Rattle.instructions.specs.declared.instruction.Closing.{Closing}
 use Rattle.instructions.specs.declared.instruction.Placement.{Placement}

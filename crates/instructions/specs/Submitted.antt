@@ -6,7 +6,7 @@ use Rattle.std.specs.declared.option.Option.{Option}
 use Rattle.std.specs.declared.option.Option.the-variants.{Some, None}
 use Rattle.terms.specs.declared.order.OrderType.{OrderType}
 use Rattle.terms.specs.declared.side.Side.{Side}
-use Rattle.instructions.specs.declared.instruction.Protection.{Protection}
+use Rattle.terms.specs.declared.protection.Protection.{Protection}
 use Rattle.instructions.specs.declared.instruction.Opening.{Opening}
 use Rattle.instructions.specs.declared.instruction.Closing.{Closing}
 use Rattle.instructions.specs.declared.instruction.Placement.{Placement}

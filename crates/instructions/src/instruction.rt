@@ -1,13 +1,7 @@
 // What an instruction asks for, in numbers as wide as their limits need.
 use terms::order::OrderType;
+use terms::protection::Protection;
 use terms::side::Side;
-
-// The levels at which a position is closed again, where there are any.
-#[derive(Clone, Copy)]
-pub struct Protection {
-    pub stop_loss: Option<u32>,
-    pub take_profit: Option<u32>,
-}
 
 // A deal at the market, at a price that may be off by the deviation.
 #[derive(Clone, Copy)]

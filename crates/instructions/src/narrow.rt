@@ -11,7 +11,6 @@ use crate::instruction::Instruction;
 use crate::instruction::Modification;
 use crate::instruction::Opening;
 use crate::instruction::Placement;
-use crate::instruction::Protection;
 use crate::submission::Submission;
 use terms::limits::is_distance;
 use terms::limits::is_instrument;
@@ -20,6 +19,7 @@ use terms::limits::is_ticket;
 use terms::limits::is_time;
 use terms::limits::is_volume;
 use terms::order::OrderType;
+use terms::protection::Protection;
 use terms::side::Side;
 
 // No level, or one inside the limits.

@@ -1,6 +1,6 @@
 // The kinds that the unit ships with, as one kind: direct is number 0, indirect 1 and share 3.
 ghost use mathlib.Core.Path.{_≡_};
-ghost use Rattle.kinds.specs.Unit.{unit-admits, unit-pays, unit-needs};
+ghost use Rattle.kinds.specs.Unit.{unit-admits, unit-pays, unit-needs, Numbers};
 use crate::direct::Direct;
 use crate::direct::DirectKind;
 use crate::indirect::Indirect;
@@ -15,10 +15,33 @@ use terms::side::Side;
 
 pub type UnitKinds = Joined<Direct, Joined<Indirect, Share>>;
 
-pub const UNIT_KINDS: UnitKinds = Joined {
-    first: Direct,
-    second: Joined {
-        first: Indirect,
-        second: Share,
-    },
-};
+// The unit's kinds, and the theorem of their numbers.
+pub fn unit_kinds() -> UnitKinds
+    ensures { λ _. ⌜ Numbers ⌝ }
+{
+    Joined {
+        first: Direct,
+        second: Joined {
+            first: Indirect,
+            second: Share,
+        },
+    }
+}
+
+pub fn unit_admitted(contract: Contract) -> bool
+    ensures { λ r. ⌜ r ≡ unit-admits contract ⌝ }
+{
+    unit_kinds().admitted(contract)
+}
+
+pub fn unit_payment(contract: Contract, side: Side, opened: u32, closed: u32, volume: u32) -> i64
+    ensures { λ r. ⌜ r ≡ unit-pays contract side opened closed volume ⌝ }
+{
+    unit_kinds().payment(contract, side, opened, closed, volume)
+}
+
+pub fn unit_margin(contract: Contract, leverage: u32, opened: u32, volume: u32) -> u64
+    ensures { λ r. ⌜ r ≡ unit-needs contract leverage opened volume ⌝ }
+{
+    unit_kinds().margin(contract, leverage, opened, volume)
+}

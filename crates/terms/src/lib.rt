@@ -6,6 +6,7 @@ pub mod giver;
 pub mod level;
 pub mod limits;
 pub mod order;
+pub mod protection;
 pub mod quote;
 pub mod record;
 pub mod refusal;
