@@ -1,3 +1,4 @@
 pub mod Closing
 pub mod Fill
 pub mod Least
+pub mod Named

@@ -3,3 +3,4 @@ pub mod candidate;
 pub mod closing;
 pub mod fill;
 pub mod least;
+pub mod shipped;
