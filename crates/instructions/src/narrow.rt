@@ -61,11 +61,7 @@ fn opening(
     ensures { λ r. ⌜ r ≡ accepted opening-ok (opening-of instrument side volume price deviation «stop_loss» «take_profit») ⌝ }
 {
     let protection = protection(stop_loss, take_profit)?;
-    if is_instrument(instrument)
-        && is_volume(volume)
-        && is_price(price)
-        && is_distance(deviation)
-    {
+    if is_instrument(instrument) && is_volume(volume) && is_price(price) && is_distance(deviation) {
         Some(Opening {
             instrument: instrument as u8,
             side,
@@ -130,12 +126,7 @@ fn placement(
     }
 }
 
-fn modification(
-    ticket: u64,
-    level: u64,
-    stop_loss: u64,
-    take_profit: u64,
-) -> Option<Modification>
+fn modification(ticket: u64, level: u64, stop_loss: u64, take_profit: u64) -> Option<Modification>
     ensures { λ r. ⌜ r ≡ accepted modification-ok (modification-of ticket level «stop_loss» «take_profit») ⌝ }
 {
     let protection = protection(stop_loss, take_profit)?;
@@ -163,15 +154,17 @@ pub fn narrowed(submission: Submission, time: u32) -> Option<Instruction>
             deviation,
             stop_loss,
             take_profit,
-        } => Some(Instruction::Open(opening(
-            instrument,
-            side,
-            volume,
-            price,
-            deviation,
-            stop_loss,
-            take_profit,
-        )?)),
+        } => Some(Instruction::Open(
+            opening(
+                instrument,
+                side,
+                volume,
+                price,
+                deviation,
+                stop_loss,
+                take_profit,
+            )?,
+        )),
         Submission::Close { ticket, volume } => {
             Some(Instruction::Close(closing(ticket, volume)?))
         }
@@ -183,27 +176,24 @@ pub fn narrowed(submission: Submission, time: u32) -> Option<Instruction>
             stop_loss,
             take_profit,
             expiry,
-        } => Some(Instruction::Place(placement(
-            instrument,
-            order,
-            volume,
-            level,
-            stop_loss,
-            take_profit,
-            expiry,
-            time,
-        )?)),
+        } => Some(Instruction::Place(
+            placement(
+                instrument,
+                order,
+                volume,
+                level,
+                stop_loss,
+                take_profit,
+                expiry,
+                time,
+            )?,
+        )),
         Submission::Modify {
             ticket,
             level,
             stop_loss,
             take_profit,
-        } => Some(Instruction::Modify(modification(
-            ticket,
-            level,
-            stop_loss,
-            take_profit,
-        )?)),
+        } => Some(Instruction::Modify(modification(ticket, level, stop_loss, take_profit)?)),
         Submission::Delete { ticket } => {
             if is_ticket(ticket) {
                 Some(Instruction::Delete(ticket as u16))

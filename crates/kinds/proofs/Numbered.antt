@@ -19,10 +19,10 @@ use Rattle.kinds.specs.Laws.{Admits}
 went : (a b : Admits) (c : Contract) → routed false a b c ≡ true → ((c .number % 2 ≡ 0) × (a (first-part c) ≡ true)) ⊎ ((c .number % 2 ≡ 1) × (b (second-part c) ≡ true))
 went a b c h = by-tests (kind-ok (c .number)) (even c) refl h
   where
-  by-tests : (known first : Bool) → even c ≡ first → cond known (cond first (a (first-part c)) (b (second-part c))) false ≡ true → ((c .number % 2 ≡ 0) × (a (first-part c) ≡ true)) ⊎ ((c .number % 2 ≡ 1) × (b (second-part c) ≡ true))
-  by-tests true true e h = inl (eqb-true (c .number % 2) 0 e, h)
-  by-tests true false e h = inr (let n : c .number % 2 ≡ 0 → ⊥ = eqb-false (c .number % 2) 0 e in omega arith, h)
-  by-tests false first e h = absurd (both-ways false refl h)
+    by-tests : (known first : Bool) → even c ≡ first → cond known (cond first (a (first-part c)) (b (second-part c))) false ≡ true → ((c .number % 2 ≡ 0) × (a (first-part c) ≡ true)) ⊎ ((c .number % 2 ≡ 1) × (b (second-part c) ≡ true))
+    by-tests true true e h = inl (eqb-true (c .number % 2) 0 e, h)
+    by-tests true false e h = inr (let n : c .number % 2 ≡ 0 → ⊥ = eqb-false (c .number % 2) 0 e in omega arith, h)
+    by-tests false first e h = absurd (both-ways false refl h)
 
 zeroth : (n : ℕ) (rest : Bool) → (eqb n 0 && rest) ≡ true → n ≡ 0
 zeroth n rest h = eqb-true n 0 (and-parts (eqb n 0) rest h .0)

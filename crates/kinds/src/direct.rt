@@ -24,7 +24,14 @@ pub impl ContractKind for Direct as DirectKind {
             && contract.percentage == 0
     }
 
-    fn payment(&self, contract: Contract, side: Side, opened: u32, closed: u32, volume: u32) -> i64 {
+    fn payment(
+        &self,
+        contract: Contract,
+        side: Side,
+        opened: u32,
+        closed: u32,
+        volume: u32,
+    ) -> i64 {
         point_payment(
             self.admitted(contract),
             contract,

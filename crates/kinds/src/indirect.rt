@@ -26,7 +26,14 @@ pub impl ContractKind for Indirect as IndirectKind {
             && contract.percentage == 0
     }
 
-    fn payment(&self, contract: Contract, side: Side, opened: u32, closed: u32, volume: u32) -> i64 {
+    fn payment(
+        &self,
+        contract: Contract,
+        side: Side,
+        opened: u32,
+        closed: u32,
+        volume: u32,
+    ) -> i64 {
         if self.admitted(contract) && is_closing(opened, closed, volume) {
             let foreign = gain(opened, closed, volume * contract.size);
             signed(side, foreign / closed as i64)

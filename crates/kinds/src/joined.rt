@@ -54,7 +54,14 @@ pub impl<A: ContractKind, B: ContractKind> ContractKind for Joined<A, B> as Join
         }
     }
 
-    fn payment(&self, contract: Contract, side: Side, opened: u32, closed: u32, volume: u32) -> i64 {
+    fn payment(
+        &self,
+        contract: Contract,
+        side: Side,
+        opened: u32,
+        closed: u32,
+        volume: u32,
+    ) -> i64 {
         if is_even(contract) {
             self.first
                 .payment(to_first(contract), side, opened, closed, volume)

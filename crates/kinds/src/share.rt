@@ -25,7 +25,14 @@ pub impl ContractKind for Share as ShareKind {
             && contract.percentage <= 100
     }
 
-    fn payment(&self, contract: Contract, side: Side, opened: u32, closed: u32, volume: u32) -> i64 {
+    fn payment(
+        &self,
+        contract: Contract,
+        side: Side,
+        opened: u32,
+        closed: u32,
+        volume: u32,
+    ) -> i64 {
         point_payment(
             self.admitted(contract),
             contract,

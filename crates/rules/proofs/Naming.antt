@@ -38,14 +38,16 @@ less-apart a b h e = grind (arith, ints)
 pub worst-named : WorstNamed
 worst-named cs told k l =
     let f = first-least-is _ (ranked by-result _ less-result) cs (told .some) in
-    let p = worst-first cs in
-    (not-less (at cs k .result) (at cs p .result) (f .least k nobody l), λ same. elim (cases-order p k) [
-      | inl e ↦ omega (arith, ap (λ (n : ℕ). at cs n .ticket) e)
-      | inr d ↦ elim d [
-        | inl before ↦ omega (arith, rises cs told p k before l)
-        | inr after ↦ absurd (less-apart (at cs p .result) (at cs k .result) (f .first k nobody after) same)
-      ]
-    ])
+    let p = worst-first cs in (
+      not-less (at cs k .result) (at cs p .result) (f .least k nobody l),
+      λ same. elim (cases-order p k) [
+        | inl e ↦ omega (arith, ap (λ (n : ℕ). at cs n .ticket) e)
+        | inr d ↦ elim d [
+          | inl before ↦ omega (arith, rises cs told p k before l)
+          | inr after ↦ absurd (less-apart (at cs p .result) (at cs k .result) (f .first k nobody after) same)
+        ]
+      ],
+    )
 
 pub lowest-named : LowestNamed
 lowest-named cs told k l =

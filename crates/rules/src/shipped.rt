@@ -3,10 +3,8 @@ ghost use Rattle.rules.specs.Named.{WorstNamed, LowestNamed};
 
 pub fn worst_first_names_the_worst()
     ensures { λ _. ⌜ WorstNamed ⌝ }
-{
-}
+{}
 
 pub fn earliest_first_names_the_lowest()
     ensures { λ _. ⌜ LowestNamed ⌝ }
-{
-}
+{}

@@ -3,21 +3,37 @@ ghost use mathlib.Core.Path.{_≡_};
 ghost use Rattle.terms.specs.Limits.{account-ok, instrument-ok, price-ok, volume-ok, leverage-ok, percentage-ok, distance-ok, rate-ok, amount-ok, time-ok, day-ok, ticket-ok, kind-ok, size-ok};
 
 pub const ACCOUNTS: u64 = 8;
+
 pub const LIVE_TICKETS: usize = 32;
+
 pub const INSTRUMENTS: u64 = 8;
+
 pub const LEAST_PRICE: u64 = 1_000;
+
 pub const MOST_PRICE: u64 = 1_000_000;
+
 pub const MOST_VOLUME: u64 = 10_000;
+
 pub const MOST_LEVERAGE: u64 = 500;
+
 pub const MOST_PERCENTAGE: u64 = 100;
+
 pub const MOST_DISTANCE: u64 = 10_000;
+
 pub const MOST_RATE: i64 = 10_000;
+
 pub const MOST_PAYMENT: u64 = 1_000_000_000_000;
+
 pub const MOST_PAID_IN: u64 = 1_000_000_000_000_000;
+
 pub const MOST_TIME: u64 = 2_000_000_000;
+
 pub const MOST_DAY: u64 = 10_000;
+
 pub const MOST_TICKET: u64 = 9_999;
+
 pub const MOST_KIND: u64 = 255;
+
 pub const MOST_SIZE: u64 = 1_000_000;
 
 pub fn is_account(n: u64) -> bool

@@ -21,10 +21,11 @@ loop-i-again c =
     let y = getD cs i nobody .ticket in
     let l : i < length cs = omega arith in
     let long = length-map cs (λ (x : Candidate). x .ticket) in
-    let read : y ≡ getD (tickets cs) i 0 = sym (getD-map (λ (x : Candidate). x .ticket) cs i nobody 0 l) in
-    ( length-set ns i y ∙ c .loop-i .inv .0
-    , take-more-set ns i y (omega (arith, c .loop-i .inv .0)) ∙ ap (λ (f : List ℕ). f ++ (y ∷ [])) (c .loop-i .inv .1)
-      ∙ ap (λ (n : ℕ). take i (tickets cs) ++ (n ∷ [])) read ∙ sym (take-more (tickets cs) i 0 (omega arith)))
+    let read : y ≡ getD (tickets cs) i 0 = sym (getD-map (λ (x : Candidate). x .ticket) cs i nobody 0 l) in (
+      length-set ns i y ∙ c .loop-i .inv .0,
+      take-more-set ns i y (omega (arith, c .loop-i .inv .0)) ∙ ap (λ (f : List ℕ). f ++ (y ∷ [])) (c .loop-i .inv .1)
+          ∙ ap (λ (n : ℕ). take i (tickets cs) ++ (n ∷ [])) read ∙ sym (take-more (tickets cs) i 0 (omega arith)),
+    )
 
 pub returns : need.returns
 returns c =

@@ -26,6 +26,6 @@ returns g c =
     record {
       within = omega arith;
       least = λ o.
-      let f : FirstBest (λ x y. isLt (o .cmp x y)) xs (length xs) (c .loop-i .best) = subst (λ (k : ℕ). FirstBest (λ x y. isLt (o .cmp x y)) xs k (c .loop-i .best)) whole (c .loop-i .inv .1 o) in
-      record { within = f .0; least = f .1; first = f .2 };
+          let f : FirstBest (λ x y. isLt (o .cmp x y)) xs (length xs) (c .loop-i .best) = subst (λ (k : ℕ). FirstBest (λ x y. isLt (o .cmp x y)) xs k (c .loop-i .best)) whole (c .loop-i .inv .1 o) in
+          record { within = f .0; least = f .1; first = f .2 };
     }
