@@ -1,5 +1,5 @@
 // Instructions: as a client or an advisor submits them, and as they wait and run, their numbers checked.
 pub mod checked;
 pub mod instruction;
-pub mod narrow;
+mod narrow;
 pub mod submission;

@@ -1,9 +1,9 @@
 // Contract kinds: which contracts a kind admits, what a closing pays and what margin a position needs.
-pub mod amounts;
+mod amounts;
 pub mod direct;
 pub mod indirect;
 pub mod joined;
 pub mod kind;
-pub mod ranges;
+mod ranges;
 pub mod share;
 pub mod unit;
