@@ -1,4 +1,5 @@
--- A submitted instruction, and when it is accepted.
+-- A submitted instruction, and the check of its numbers.
+use mathlib.Core.Path.{_≡_}
 use mathlib.Core.Bool.{Bool, true, _&&_, cond}
 use Prim.Native.Nat.{ℕ}
 use lib.Dec.{eqb, ltb}
@@ -19,8 +20,13 @@ use Rattle.instructions.specs.declared.checked.CheckedInstruction.{CheckedInst
 use Rattle.instructions.specs.Inside.{inside, optionally}
 
 -- the value, if it passes
-abbrev pub accepted : {X : Type 0} → (X → Bool) → X → Option X
-accepted ok x = cond (ok x) (Some x) None
+abbrev pub checked : {X : Type 0} → (X → Bool) → X → Option X
+checked ok x = cond (ok x) (Some x) None
+
+-- what there is passes
+abbrev pub Passing : {X : Type 0} → (X → Bool) → Option X → Type 0
+Passing ok None = Unit {0}
+Passing ok (Some x) = ok x ≡ true
 
 -- 0 stands for none
 abbrev pub optional : ℕ → Option ℕ
@@ -57,8 +63,9 @@ timely now (into.Place p) = optionally (ltb now) (p .expiry)
 timely now (into.Modify m) = true
 timely now (into.Delete t) = true
 
-abbrev pub acceptable : ℕ → Instruction → Bool
-acceptable now i = inside i && timely now i
+-- the check of an instruction's numbers, at the present time
+abbrev pub passes : ℕ → Instruction → Bool
+passes now i = inside i && timely now i
 
 -- what a checked instruction asks for
 abbrev pub instructed : CheckedInstruction → Instruction

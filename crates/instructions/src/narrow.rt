@@ -4,8 +4,8 @@ ghost use mathlib.Core.Bool.{_&&_};
 ghost use Prim.Native.Nat.{_^_, _<_};
 ghost use lib.Dec.{ltb};
 ghost use Rattle.terms.specs.Limits.{price-ok, time-ok};
-ghost use Rattle.instructions.specs.Inside.{optionally, protection-ok, opening-ok, closing-ok, placement-ok, modification-ok};
-ghost use Rattle.instructions.specs.Submitted.{accepted, acceptable, as-numbers, optional, protection-of, opening-of, closing-of, placement-of, modification-of};
+ghost use Rattle.instructions.specs.Inside.{inside, optionally, protection-ok, opening-ok, closing-ok, placement-ok, modification-ok};
+ghost use Rattle.instructions.specs.Submitted.{checked, passes, Passing, as-numbers, optional, protection-of, opening-of, closing-of, placement-of, modification-of};
 use crate::instruction::Closing;
 use crate::instruction::Instruction;
 use crate::instruction::Modification;
@@ -37,7 +37,8 @@ fn some_unless_zero(n: u64) -> Option<u32>
 }
 
 fn protection(stop_loss: u64, take_profit: u64) -> Option<Protection>
-    ensures { λ r. ⌜ r ≡ accepted protection-ok (protection-of «stop_loss» «take_profit») ⌝ }
+    ensures value { λ r. ⌜ r ≡ checked protection-ok (protection-of «stop_loss» «take_profit») ⌝ }
+    ensures within { λ r. ⌜ Passing protection-ok r ⌝ }
 {
     if is_optional_price(stop_loss) && is_optional_price(take_profit) {
         Some(Protection {
@@ -58,7 +59,8 @@ fn opening(
     stop_loss: u64,
     take_profit: u64,
 ) -> Option<Opening>
-    ensures { λ r. ⌜ r ≡ accepted opening-ok (opening-of instrument side volume price deviation «stop_loss» «take_profit») ⌝ }
+    ensures value { λ r. ⌜ r ≡ checked opening-ok (opening-of instrument side volume price deviation «stop_loss» «take_profit») ⌝ }
+    ensures within { λ r. ⌜ Passing opening-ok r ⌝ }
 {
     let protection = protection(stop_loss, take_profit)?;
     if is_instrument(instrument) && is_volume(volume) && is_price(price) && is_distance(deviation) {
@@ -76,7 +78,8 @@ fn opening(
 }
 
 fn closing(ticket: u64, volume: u64) -> Option<Closing>
-    ensures { λ r. ⌜ r ≡ accepted closing-ok (closing-of ticket volume) ⌝ }
+    ensures value { λ r. ⌜ r ≡ checked closing-ok (closing-of ticket volume) ⌝ }
+    ensures within { λ r. ⌜ Passing closing-ok r ⌝ }
 {
     if is_ticket(ticket) && is_volume(volume) {
         Some(Closing {
@@ -105,7 +108,8 @@ fn placement(
     expiry: u64,
     time: u32,
 ) -> Option<Placement>
-    ensures { λ r. ⌜ r ≡ accepted (λ p. placement-ok p && optionally (ltb time) (p .expiry)) (placement-of instrument order volume level «stop_loss» «take_profit» expiry) ⌝ }
+    ensures value { λ r. ⌜ r ≡ checked (λ p. placement-ok p && optionally (ltb time) (p .expiry)) (placement-of instrument order volume level «stop_loss» «take_profit» expiry) ⌝ }
+    ensures within { λ r. ⌜ Passing placement-ok r ⌝ }
 {
     let protection = protection(stop_loss, take_profit)?;
     if is_instrument(instrument)
@@ -127,7 +131,8 @@ fn placement(
 }
 
 fn modification(ticket: u64, level: u64, stop_loss: u64, take_profit: u64) -> Option<Modification>
-    ensures { λ r. ⌜ r ≡ accepted modification-ok (modification-of ticket level «stop_loss» «take_profit») ⌝ }
+    ensures value { λ r. ⌜ r ≡ checked modification-ok (modification-of ticket level «stop_loss» «take_profit») ⌝ }
+    ensures within { λ r. ⌜ Passing modification-ok r ⌝ }
 {
     let protection = protection(stop_loss, take_profit)?;
     if is_ticket(ticket) && is_optional_price(level) {
@@ -143,7 +148,8 @@ fn modification(ticket: u64, level: u64, stop_loss: u64, take_profit: u64) -> Op
 
 // The same numbers in narrower types, where all are inside their limits.
 pub fn narrowed(submission: Submission, time: u32) -> Option<Instruction>
-    ensures { λ r. ⌜ r ≡ accepted (acceptable time) (as-numbers submission) ⌝ }
+    ensures value { λ r. ⌜ r ≡ checked (passes time) (as-numbers submission) ⌝ }
+    ensures within { λ r. ⌜ Passing inside r ⌝ }
 {
     match submission {
         Submission::Open {

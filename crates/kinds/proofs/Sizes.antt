@@ -51,8 +51,8 @@ gain-size o k u = natAbs-times (pos k -ℤ pos o) u ∙ ap (λ n. n * u) (natAbs
 pub gain-most : (o k u m : ℕ) → o ≤ 1000000 → k ≤ 1000000 → u ≤ m → natAbs (gained o k u) ≤ 1000000 * m
 gain-most o k u m ho hk hu = omega (arith, gain-size o k u, mul-le ((k - o) + (o - k)) u 1000000 m (omega arith) hu)
 
--- `div_ceil` rounds up
-pub ceil : (n d : ℕ) → 0 < d → n / d + min 1 (n % d) ≡ rounded-up n d
+-- rounding up by one division
+ceil : (n d : ℕ) → 0 < d → rounded-up n d ≡ (n + (d - 1)) / d
 ceil n d h =
     let whole : n / d * d + n % d ≡ n = div-add-mod' n d in
     let low : n % d < d = mod-below n d h in
@@ -66,17 +66,10 @@ ceil n d h =
     (cases-lt (n % d) 1)
 
 pub rounded-least : (n d : ℕ) → 0 < d → 1 ≤ n → 1 ≤ rounded-up n d
-rounded-least n d h k = le-div 1 (n + (d - 1)) d h (omega arith)
+rounded-least n d h k = omega (arith, ceil n d h, le-div 1 (n + (d - 1)) d h (omega arith))
 
 pub rounded-most : (n d m : ℕ) → 0 < d → n ≤ m * d → rounded-up n d ≤ m
-rounded-most n d m h k = omega (arith, div-below (n + (d - 1)) d (m + 1) h (omega (arith, add-mul m 1 d)))
-
--- `gain`'s product is computed in 64 bits
-pub gain-bits : (o k u : ℕ) → o < 2 ^ 32 → k < 2 ^ 32 → u < 2 ^ 32 → toZ w64 (ofZ w64 (toZ w64 k -ℤ toZ w64 o)) *ℤ toZ w64 u ≡ gained o k u
-gain-bits o k u ho hk hu =
-    let e : toZ w64 (ofZ w64 (toZ w64 k -ℤ toZ w64 o)) ≡ pos k -ℤ pos o = omega (arith, ints) in
-    let f : toZ w64 u ≡ pos u = omega (arith, ints) in
-    cc
+rounded-most n d m h k = omega (arith, ceil n d h, div-below (n + (d - 1)) d (m + 1) h (omega (arith, add-mul m 1 d)))
 
 pub gain-fits : (o k u : ℕ) → o ≤ 1000000 → k ≤ 1000000 → u < 2 ^ 32 → SFits w64 (gained o k u)
 gain-fits o k u ho hk hu = fits (gained o k u) (omega (arith, gain-most o k u (2 ^ 32) ho hk (omega arith)))

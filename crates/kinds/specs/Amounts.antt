@@ -1,5 +1,5 @@
 -- How amounts are made and rounded.
-use Prim.Native.Nat.{ℕ, _+_, _-_, _/_}
+use Prim.Native.Nat.{ℕ, _+_, _/_, _%_, min}
 use lib.IntN.{ℤ, pos, negℤ, _-ℤ_, _*ℤ_}
 use Rattle.terms.specs.declared.side.Side.{Side}
 use Rattle.terms.specs.declared.side.Side.the-variants.{Buy, Sell}
@@ -13,6 +13,6 @@ abbrev pub by-side : Side → ℤ → ℤ
 by-side Buy z = z
 by-side Sell z = negℤ z
 
--- n / d, rounded up
+-- n / d, rounded up: one more where a remainder is left
 abbrev pub rounded-up : ℕ → ℕ → ℕ
-rounded-up n d = (n + (d - 1)) / d
+rounded-up n d = n / d + min 1 (n % d)

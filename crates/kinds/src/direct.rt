@@ -2,6 +2,7 @@
 ghost use Rattle.kinds.specs.Direct.{direct-admits, direct-pays, direct-needs};
 use crate::amounts::point_payment;
 use crate::amounts::up;
+use crate::amounts::worth;
 use crate::kind::ContractKind;
 use crate::ranges::is_holding;
 use terms::contract::Contract;
@@ -44,10 +45,7 @@ pub impl ContractKind for Direct as DirectKind {
 
     fn margin(&self, contract: Contract, leverage: u32, opened: u32, volume: u32) -> u64 {
         if self.admitted(contract) && is_holding(leverage, opened, volume) {
-            up(
-                volume as u64 * opened as u64 * contract.size as u64,
-                leverage,
-            )
+            up(worth(volume, opened, contract.size), leverage)
         } else {
             0
         }

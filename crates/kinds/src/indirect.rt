@@ -2,6 +2,7 @@
 ghost use Rattle.kinds.specs.Indirect.{indirect-admits, indirect-pays, indirect-needs};
 use crate::amounts::gain;
 use crate::amounts::signed;
+use crate::amounts::units;
 use crate::amounts::up;
 use crate::kind::ContractKind;
 use crate::ranges::is_closing;
@@ -35,7 +36,7 @@ pub impl ContractKind for Indirect as IndirectKind {
         volume: u32,
     ) -> i64 {
         if self.admitted(contract) && is_closing(opened, closed, volume) {
-            let foreign = gain(opened, closed, volume * contract.size);
+            let foreign = gain(opened, closed, units(volume, contract.size));
             signed(side, foreign / closed as i64)
         } else {
             0
@@ -44,7 +45,7 @@ pub impl ContractKind for Indirect as IndirectKind {
 
     fn margin(&self, contract: Contract, leverage: u32, opened: u32, volume: u32) -> u64 {
         if self.admitted(contract) && is_holding(leverage, opened, volume) {
-            up(volume as u64 * contract.size as u64, leverage)
+            up(units(volume, contract.size) as u64, leverage)
         } else {
             0
         }

@@ -2,6 +2,7 @@
 ghost use Rattle.kinds.specs.Share.{share-admits, share-pays, share-needs};
 use crate::amounts::point_payment;
 use crate::amounts::up;
+use crate::amounts::worth;
 use crate::kind::ContractKind;
 use crate::ranges::is_holding;
 use terms::contract::Contract;
@@ -45,8 +46,8 @@ pub impl ContractKind for Share as ShareKind {
 
     fn margin(&self, contract: Contract, leverage: u32, opened: u32, volume: u32) -> u64 {
         if self.admitted(contract) && is_holding(leverage, opened, volume) {
-            let worth = volume as u64 * opened as u64 * contract.size as u64;
-            up(worth * contract.percentage as u64, 100)
+            let whole = worth(volume, opened, contract.size);
+            up(whole * contract.percentage as u64, 100)
         } else {
             0
         }

@@ -6,7 +6,7 @@ use mathlib.Core.List.{List}
 use Prim.Native.Nat.{ℕ, _<_}
 use native.Mathlib.Omega.{arith}
 use lib.Dec.{ltb}
-use lib.IntN.{ℤ, pos}
+use lib.IntN.{ℤ}
 use lib.ListN.{length, getD}
 use lib.Signed.{_≤ℤ_, ltZ}
 use Rattle.std.specs.Keys.{unsigned}
@@ -15,15 +15,12 @@ use Rattle.std.proofs.shelf.Signed.{ints}
 use Rattle.std.proofs.shelf.Tests.{cases-order, ltb-false}
 use Rattle.rules.specs.declared.candidate.Candidate.{Candidate}
 use Rattle.rules.specs.Closing.{Told, tickets, worst-first, earliest-first}
-use Rattle.rules.specs.Named.{at, WorstNamed, LowestNamed}
+use Rattle.rules.specs.Named.{blank, at, WorstNamed, LowestNamed}
 use Rattle.rules.proofs.Firsts.{ranked, first-least-is}
 use Rattle.rules.proofs.Orders.{by-result, less-result, less-number}
 
-abbrev nobody : Candidate
-nobody = record { ticket = 0; result = pos 0; margin = 0 }
-
 ticket-at : (cs : List Candidate) (k : ℕ) → k < length cs → getD (tickets cs) k 0 ≡ at cs k .ticket
-ticket-at cs k l = getD-map (λ (x : Candidate). x .ticket) cs k nobody 0 l
+ticket-at cs k l = getD-map (λ (x : Candidate). x .ticket) cs k blank 0 l
 
 rises : (cs : List Candidate) → Told cs → (j k : ℕ) → j < k → k < length cs → at cs j .ticket < at cs k .ticket
 rises cs told j k h l =
@@ -39,12 +36,12 @@ pub worst-named : WorstNamed
 worst-named cs told k l =
     let f = first-least-is _ (ranked by-result _ less-result) cs (told .some) in
     let p = worst-first cs in (
-      not-less (at cs k .result) (at cs p .result) (f .least k nobody l),
+      not-less (at cs k .result) (at cs p .result) (f .least k blank l),
       λ same. elim (cases-order p k) [
         | inl e ↦ omega (arith, ap (λ (n : ℕ). at cs n .ticket) e)
         | inr d ↦ elim d [
           | inl before ↦ omega (arith, rises cs told p k before l)
-          | inr after ↦ absurd (less-apart (at cs p .result) (at cs k .result) (f .first k nobody after) same)
+          | inr after ↦ absurd (less-apart (at cs p .result) (at cs k .result) (f .first k blank after) same)
         ]
       ],
     )

@@ -1,5 +1,5 @@
--- The orders that the search for the first least goes by: any of std's, candidates by result, tickets by number.
-use mathlib.Core.Path.{_≡_, refl, sym, ap, _∙_}
+-- The two orders that the closing rules search by.
+use mathlib.Core.Path.{_≡_, refl}
 use mathlib.Core.Bool.{Bool, true, false, cond}
 use Prim.Native.Nat.{ℕ}
 use lib.Dec.{ltb, eqb}
@@ -10,10 +10,6 @@ use Rattle.std.specs.Orderings.{isLt, Ranked}
 use Rattle.std.specs.declared.cmp.Ordering.{Ordering}
 use Rattle.std.specs.declared.cmp.Ordering.the-variants.{Less, Equal, Greater}
 use Rattle.rules.specs.declared.candidate.Candidate.{Candidate}
-
--- a test of what `cmp` answered is the order's own test
-pub told : {X : Type 0} {R : X → X → Ordering → Type 0} (o : Total R) (x y : X) (r : Ordering) (t : Bool) → R x y r → t ≡ isLt r → isLt (o .cmp x y) ≡ t
-told o x y r t h e = ap isLt (sym (o .says x y r h)) ∙ sym e
 
 abbrev pub by-result : Total (λ (x y : Candidate) (r : Ordering). Ranked r (x .result <ℤ y .result) (x .result ≡ y .result) (y .result <ℤ x .result))
 by-result = record {

@@ -8,9 +8,13 @@ use lib.Signed.{_≤ℤ_}
 use Rattle.rules.specs.declared.candidate.Candidate.{Candidate}
 use Rattle.rules.specs.Closing.{Told, worst-first, earliest-first}
 
+-- what stands past the end of a list
+abbrev pub blank : Candidate
+blank = record { ticket = 0; result = pos 0; margin = 0 }
+
 -- the candidate at a place of the list
 abbrev pub at : List Candidate → ℕ → Candidate
-at cs k = getD cs k (record { ticket = 0; result = pos 0; margin = 0 })
+at cs k = getD cs k blank
 
 -- no result is smaller than that of the position that worst first names, and no ticket of the same result is lower
 abbrev pub WorstNamed : Type 0

@@ -1,8 +1,10 @@
 // Which of an account's positions a stop-out closes first.
 ghost use mathlib.Core.Path.{_≡_};
-ghost use Prim.Native.Nat.{_≤_};
+ghost use Prim.Native.Nat.{_<_, _≤_};
+ghost use lib.Dec.{ltb};
 ghost use lib.ListN.{length, take};
 ghost use Rattle.rules.specs.Closing.{Picks, Told, NamesOne, tickets, worst-first, earliest-first};
+ghost use Rattle.rules.specs.Least.{first-least};
 use crate::candidate::Candidate;
 use crate::candidate::CandidateOrd;
 use crate::least::first_least;
@@ -27,7 +29,7 @@ pub impl ClosingRule for WorstFirst as WorstFirstRule {
     ghost picks = { λ _. worst-first };
 
     fn pick(&self, candidates: &[Candidate]) -> usize {
-        first_least(candidates)
+        smallest_result(candidates)
     }
 }
 
@@ -40,8 +42,22 @@ pub impl ClosingRule for EarliestFirst as EarliestFirstRule {
 
     fn pick(&self, candidates: &[Candidate]) -> usize {
         let numbers = ticket_numbers(candidates);
-        first_least(&numbers[0..candidates.len()])
+        lowest_number(&numbers[0..candidates.len()])
     }
+}
+
+fn smallest_result(candidates: &[Candidate]) -> usize
+    requires { ⌜ 0 < length (now candidates) ⌝ }
+    ensures { λ r. ⌜ r ≡ worst-first (now (candidates .entry)) ⌝ }
+{
+    first_least(candidates)
+}
+
+fn lowest_number(numbers: &[u16]) -> usize
+    requires { ⌜ 0 < length (now numbers) ⌝ }
+    ensures { λ r. ⌜ r ≡ first-least ltb (now (numbers .entry)) ⌝ }
+{
+    first_least(numbers)
 }
 
 // The candidates' ticket numbers, in the first places.

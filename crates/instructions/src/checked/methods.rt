@@ -3,7 +3,7 @@ ghost use mathlib.Core.Path.{_≡_};
 ghost use mathlib.Core.Bool.{true};
 ghost use Rattle.std.specs.Options.{mapped};
 ghost use Rattle.instructions.specs.Inside.{inside};
-ghost use Rattle.instructions.specs.Submitted.{accepted, acceptable, as-numbers, instructed};
+ghost use Rattle.instructions.specs.Submitted.{checked, passes, as-numbers, instructed};
 use crate::checked::CheckedInstruction;
 use crate::instruction::Instruction;
 use crate::narrow::narrowed;
@@ -12,7 +12,7 @@ use crate::submission::Submission;
 impl CheckedInstruction {
     // The instruction that was submitted, unless a number of it is outside its limits at the present time.
     pub fn from_submission(submission: Submission, time: u32) -> Option<CheckedInstruction>
-        ensures { λ r. ⌜ mapped instructed r ≡ accepted (acceptable time) (as-numbers submission) ⌝ }
+        ensures { λ r. ⌜ mapped instructed r ≡ checked (passes time) (as-numbers submission) ⌝ }
     {
         match narrowed(submission, time) {
             Some(instruction) => Some(CheckedInstruction { instruction }),

@@ -2,26 +2,22 @@ use mathlib.Core.Path.{_≡_, ap, sym, _∙_}
 use mathlib.Core.List.{List, [], _∷_, _++_}
 use Prim.Native.Nat.{ℕ, _<_}
 use native.Mathlib.Omega.{arith}
-use lib.IntN.{pos}
 use lib.ListN.{length, getD, take}
 use Rattle.std.proofs.shelf.Lists.{length-set, length-map, take-more, take-more-set, take-all, getD-map}
 use Rattle.rules.specs.declared.candidate.Candidate.{Candidate}
 use Rattle.rules.specs.Closing.{tickets}
+use Rattle.rules.specs.Named.{blank}
 use Rattle.rules.proofs.closing.ticket_numbers.Needs as need
-
--- what a read past the end gives
-abbrev nobody : Candidate
-nobody = record { ticket = 0; result = pos 0; margin = 0 }
 
 pub loop-i-again : need.loop-i-again
 loop-i-again c =
     let cs = c .args .candidates .now in
     let i = c .loop-i .i in
     let ns = c .loop-i .numbers in
-    let y = getD cs i nobody .ticket in
+    let y = getD cs i blank .ticket in
     let l : i < length cs = omega arith in
     let long = length-map cs (λ (x : Candidate). x .ticket) in
-    let read : y ≡ getD (tickets cs) i 0 = sym (getD-map (λ (x : Candidate). x .ticket) cs i nobody 0 l) in (
+    let read : y ≡ getD (tickets cs) i 0 = sym (getD-map (λ (x : Candidate). x .ticket) cs i blank 0 l) in (
       length-set ns i y ∙ c .loop-i .inv .0,
       take-more-set ns i y (omega (arith, c .loop-i .inv .0)) ∙ ap (λ (f : List ℕ). f ++ (y ∷ [])) (c .loop-i .inv .1)
           ∙ ap (λ (n : ℕ). take i (tickets cs) ++ (n ∷ [])) read ∙ sym (take-more (tickets cs) i 0 (omega arith)),

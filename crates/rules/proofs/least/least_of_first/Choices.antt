@@ -1,8 +1,8 @@
-use Prim.Native.Nat.{_<_}
 use Rattle.std.specs.Keys.{Total}
 use Rattle.std.specs.Orderings.{isLt}
 use Rattle.std.specs.shelf.Bests.{FirstBest}
-use Rattle.rules.proofs.least.first_least.Given as given
+use Prim.Native.Nat.{_<_}
+use Rattle.rules.proofs.least.least_of_first.Given as given
 
 -- the best so far is the first least of what was seen
 abbrev pub Inv-loop-i : given.InvT-loop-i
