@@ -3,7 +3,7 @@ use mathlib.Core.Bool.{Bool, true, _&&_}
 use Prim.Native.Nat.{ℕ}
 use Rattle.std.specs.declared.option.Option.{Option}
 use Rattle.std.specs.declared.option.Option.the-variants.{Some, None}
-use Rattle.terms.specs.Limits.{instrument-ok, price-ok, volume-ok, distance-ok, ticket-ok, time-ok}
+use Rattle.limits.specs.Bounds.{instrument-ok, price-ok, volume-ok, distance-ok, ticket-ok, time-ok}
 use Rattle.terms.specs.declared.protection.Protection.{Protection}
 use Rattle.instructions.specs.declared.instruction.Opening.{Opening}
 use Rattle.instructions.specs.declared.instruction.Closing.{Closing}

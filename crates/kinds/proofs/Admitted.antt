@@ -6,8 +6,9 @@ use native.Mathlib.Omega.{arith}
 use lib.Dec.{eqb}
 use Rattle.std.proofs.shelf.Tests.{and-parts, and-from, eqb-true, le-leb}
 use Rattle.terms.specs.declared.contract.Contract.{Contract}
-use Rattle.terms.specs.Limits.{between, kind-ok, size-ok, percentage-ok, contract-ok}
-use Rattle.terms.proofs.Within.{between-says}
+use Rattle.limits.specs.Bounds.{between, kind-ok, size-ok, percentage-ok}
+use Rattle.limits.proofs.Within.{between-says}
+use Rattle.kinds.specs.Ranges.{contract-ok}
 
 abbrev admission : Contract → ℕ → Bool → Bool
 admission c most percented = eqb (c .number) 0 && (between 1 most (c .size) && percented)

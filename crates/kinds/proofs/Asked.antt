@@ -3,8 +3,8 @@ use mathlib.Core.Path.{_≡_}
 use mathlib.Core.Bool.{true, _&&_}
 use Prim.Native.Nat.{ℕ}
 use Rattle.std.proofs.shelf.Tests.{and-parts, and-from}
-use Rattle.terms.specs.Limits.{price-ok, volume-ok, leverage-ok, Price, Volume, Leverage}
-use Rattle.terms.proofs.Within.{between-says, between-true}
+use Rattle.limits.specs.Bounds.{price-ok, volume-ok, leverage-ok, Price, Volume, Leverage}
+use Rattle.limits.proofs.Within.{between-says, between-true}
 use Rattle.kinds.specs.Ranges.{closing-ok, holding-ok}
 
 pub closing-says : (o k v : ℕ) → closing-ok o k v ≡ true → Price o × Price k × Volume v

@@ -6,7 +6,7 @@ use native.Mathlib.Nat.{mul-assoc, mul-comm, add-mul}
 use lib.IntN.{pos, natAbs}
 use lib.Signed.{quotZ}
 use Rattle.std.proofs.shelf.Bits.{mul-le, div-below}
-use Rattle.terms.specs.Limits.{Price}
+use Rattle.limits.specs.Bounds.{Price}
 use Rattle.kinds.specs.Amounts.{gained}
 use Rattle.kinds.proofs.Sizes.{natAbs-quot, gain-size}
 

@@ -7,7 +7,7 @@ use native.Mathlib.Omega.{arith}
 use lib.Dec.{eqb}
 use Rattle.std.proofs.shelf.Tests.{and-parts, eqb-true, eqb-false, both-ways}
 use Rattle.terms.specs.declared.contract.Contract.{Contract}
-use Rattle.terms.specs.Limits.{kind-ok}
+use Rattle.limits.specs.Bounds.{kind-ok}
 use Rattle.kinds.specs.Joined.{even, first-part, second-part, routed}
 use Rattle.kinds.specs.Direct.{direct-admits}
 use Rattle.kinds.specs.Indirect.{indirect-admits}

@@ -1,7 +1,7 @@
 -- What relates admission and answer in both kinds, and where none is admitted, relates them in the two joined.
 use mathlib.Core.Bool.{Bool, true, false, cond}
 use Rattle.terms.specs.declared.contract.Contract.{Contract}
-use Rattle.terms.specs.Limits.{kind-ok}
+use Rattle.limits.specs.Bounds.{kind-ok}
 use Rattle.kinds.specs.Joined.{even, first-part, second-part, routed}
 
 module _ {X : Type 0} (R : Bool → X → Type 0) (none : X) (outside : R false none) (a b : Contract → Bool) (f g : Contract → X) where

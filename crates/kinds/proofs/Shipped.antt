@@ -8,7 +8,7 @@ use Rattle.std.proofs.shelf.Tests.{and-parts, and-from, cond-true, cond-both}
 use Rattle.terms.specs.declared.contract.Contract.{Contract}
 use Rattle.terms.specs.declared.side.Side.{Side}
 use Rattle.terms.specs.declared.side.Side.the-variants.{Buy, Sell}
-use Rattle.terms.specs.Limits.{Price, Volume, Leverage}
+use Rattle.limits.specs.Bounds.{Price, Volume, Leverage}
 use Rattle.kinds.specs.Amounts.{by-side, rounded-up}
 use Rattle.kinds.specs.Laws.{Admits, Flat, Opposite, Bounded}
 use Rattle.kinds.specs.Payments.{Gains, paid, needed}

@@ -2,7 +2,7 @@
 use mathlib.Core.Bool.{Bool, _&&_}
 use Prim.Native.Nat.{_*_}
 use lib.Dec.{eqb}
-use Rattle.terms.specs.Limits.{between}
+use Rattle.limits.specs.Bounds.{between}
 use Rattle.kinds.specs.Amounts.{rounded-up}
 use Rattle.kinds.specs.Laws.{Admits, Pays, Needs}
 use Rattle.kinds.specs.Payments.{paid, needed, points}

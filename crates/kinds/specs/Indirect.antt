@@ -4,7 +4,7 @@ use Prim.Native.Nat.{_*_}
 use lib.Dec.{eqb}
 use lib.IntN.{pos}
 use lib.Signed.{quotZ}
-use Rattle.terms.specs.Limits.{between}
+use Rattle.limits.specs.Bounds.{between}
 use Rattle.kinds.specs.Amounts.{gained, rounded-up}
 use Rattle.kinds.specs.Laws.{Admits, Pays, Needs}
 use Rattle.kinds.specs.Payments.{Gains, paid, needed}

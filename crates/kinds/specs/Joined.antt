@@ -4,7 +4,7 @@ use Prim.Native.Nat.{ℕ, _-_, _/_, _%_}
 use lib.Dec.{eqb}
 use lib.IntN.{pos}
 use Rattle.terms.specs.declared.contract.Contract.{Contract}
-use Rattle.terms.specs.Limits.{kind-ok}
+use Rattle.limits.specs.Bounds.{kind-ok}
 use Rattle.kinds.specs.Laws.{Admits, Pays, Needs}
 
 abbrev pub even : Contract → Bool

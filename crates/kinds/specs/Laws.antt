@@ -6,8 +6,8 @@ use lib.IntN.{ℤ, pos, negℤ, natAbs}
 use Rattle.terms.specs.declared.contract.Contract.{Contract}
 use Rattle.terms.specs.declared.side.Side.{Side}
 use Rattle.terms.specs.declared.side.Side.the-variants.{Buy, Sell}
-use Rattle.terms.specs.Limits.{Price, Volume, Leverage, contract-ok}
-use Rattle.kinds.specs.Ranges.{closing-ok, holding-ok}
+use Rattle.limits.specs.Bounds.{Price, Volume, Leverage}
+use Rattle.kinds.specs.Ranges.{contract-ok, closing-ok, holding-ok}
 
 -- which contracts it admits
 abbrev pub Admits : Type 0

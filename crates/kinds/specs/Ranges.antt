@@ -1,7 +1,12 @@
--- The numbers of a closing, and of a margin, inside their limits.
+-- The numbers of a contract, of a closing and of a margin, inside their limits.
 use mathlib.Core.Bool.{Bool, _&&_}
 use Prim.Native.Nat.{ℕ}
-use Rattle.terms.specs.Limits.{price-ok, volume-ok, leverage-ok}
+use Rattle.limits.specs.Bounds.{kind-ok, size-ok, percentage-ok, price-ok, volume-ok, leverage-ok}
+use Rattle.terms.specs.declared.contract.Contract.{Contract}
+
+-- kind number, size and percentage
+abbrev pub contract-ok : Contract → Bool
+contract-ok c = kind-ok (c .number) && (size-ok (c .size) && percentage-ok (c .percentage))
 
 -- opening price, closing price and volume
 abbrev pub closing-ok : ℕ → ℕ → ℕ → Bool

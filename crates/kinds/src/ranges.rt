@@ -1,9 +1,9 @@
 // Whether the numbers of a closing, or of a margin, are inside their limits.
 ghost use mathlib.Core.Path.{_≡_};
 ghost use Rattle.kinds.specs.Ranges.{closing-ok, holding-ok};
-use terms::limits::is_leverage;
-use terms::limits::is_price;
-use terms::limits::is_volume;
+use limits::is_leverage;
+use limits::is_price;
+use limits::is_volume;
 
 pub fn is_closing(opened: u32, closed: u32, volume: u32) -> bool
     ensures { λ r. ⌜ r ≡ closing-ok opened closed volume ⌝ }

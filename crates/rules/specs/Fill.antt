@@ -5,7 +5,7 @@ use mathlib.Core.Bool.{Bool, cond}
 use Prim.Native.Nat.{ℕ}
 use Rattle.terms.specs.declared.level.WorksAs.{WorksAs}
 use Rattle.terms.specs.declared.level.WorksAs.the-variants.{Stop, Limit}
-use Rattle.terms.specs.Limits.{Price}
+use Rattle.limits.specs.Bounds.{Price}
 
 -- the price dealt, by what the order works as, its level, the market price and whether a gap came
 abbrev pub Deals : Type 0

@@ -8,7 +8,7 @@ ghost use Rattle.rules.specs.Least.{first-least};
 use crate::candidate::Candidate;
 use crate::candidate::CandidateOrd;
 use crate::least::first_least;
-use terms::limits::LIVE_TICKETS;
+use limits::LIVE_TICKETS;
 
 // A rule's meaning is the place that it names, as a function of the list that it is told.
 pub trait ClosingRule {

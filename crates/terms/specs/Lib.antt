@@ -1,7 +1,6 @@
 pub mod Codes
 pub mod Givers
 pub mod Levels
-pub mod Limits
 pub mod Quotes
 pub mod Refusals
 pub mod Sides

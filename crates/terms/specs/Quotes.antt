@@ -6,15 +6,15 @@ use Rattle.terms.specs.declared.side.Side.{Side}
 use Rattle.terms.specs.declared.side.Side.the-variants.{Buy, Sell}
 use Rattle.terms.specs.declared.quote.Prices.{Prices}
 use Rattle.terms.specs.declared.quote.Quote.{Quote}
-use Rattle.terms.specs.Limits.{price-ok}
+use Rattle.limits.specs.Bounds.{price-ok}
 
 -- both prices are inside the limits, and the bid is at most the ask
 abbrev pub quotable : Prices → Bool
 quotable p = price-ok (p .bid) && (price-ok (p .ask) && leb (p .bid) (p .ask))
 
 -- a quote's two prices
-abbrev pub shown : Quote → Prices
-shown q = record { bid = q .bid; ask = q .ask }
+abbrev pub prices-of : Quote → Prices
+prices-of q = record { bid = q .bid; ask = q .ask }
 
 abbrev pub opening-price : Side → Prices → ℕ
 opening-price Buy p = p .ask

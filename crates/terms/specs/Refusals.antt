@@ -1,5 +1,7 @@
 -- The number of each refusal, with its condition.
 use Prim.Native.Nat.{ℕ}
+use Rattle.std.specs.declared.option.Option.{Option}
+use Rattle.std.specs.declared.option.Option.the-variants.{Some, None}
 use Rattle.terms.specs.declared.refusal.Refusal.{Refusal}
 use Rattle.terms.specs.declared.refusal.Refusal.the-variants.{ShortLog, AccountNotOpen, NotListed, OutsideLimits, GoesBack, Exists, NotAdmitted, Busy, NoneWaits, InProcess, FromAdvisor, NotInProcess, NoSuchTicket, AboveOpen, NoPrice, OffPrice, TooNear, NoRoom, ShortOfMoney}
 
@@ -42,3 +44,8 @@ refusal-number TooNear = 17
 refusal-number NoRoom = 18
 -- margin or balance is short
 refusal-number ShortOfMoney = 19
+
+-- the cause of a record, 0 where there is none
+abbrev pub cause-number : Option Refusal → ℕ
+cause-number None = 0
+cause-number (Some r) = refusal-number r

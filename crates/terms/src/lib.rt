@@ -4,7 +4,6 @@
 pub mod contract;
 pub mod giver;
 pub mod level;
-pub mod limits;
 pub mod order;
 pub mod protection;
 pub mod quote;

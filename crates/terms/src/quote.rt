@@ -1,7 +1,7 @@
 // Prices as tables keep them, and a quote, whose prices are fair by its type.
 ghost use mathlib.Core.Path.{_≡_};
 ghost use Prim.Native.Nat.{_≤_};
-ghost use Rattle.terms.specs.Limits.{Price};
+ghost use Rattle.limits.specs.Bounds.{Price};
 
 mod methods;
 

@@ -1,6 +1,7 @@
 // A line of the log, and the code of what happened.
 ghost use mathlib.Core.Path.{_≡_};
 ghost use Rattle.terms.specs.Codes.{code-number};
+ghost use Rattle.terms.specs.Refusals.{cause-number};
 use crate::refusal::Refusal;
 
 #[derive(Clone, Copy)]
@@ -59,4 +60,16 @@ pub struct Record {
     pub price: u32,
     pub volume: u32,
     pub amount: i64,
+}
+
+impl Record {
+    // The number of the refusal that was the cause, and 0 where there is none.
+    pub fn cause_number(self) -> u8
+        ensures { λ r. ⌜ r ≡ cause-number (self .cause) ⌝ }
+    {
+        match self.cause {
+            Some(refusal) => refusal.number(),
+            None => 0,
+        }
+    }
 }

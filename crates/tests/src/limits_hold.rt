@@ -1,19 +1,19 @@
 // Each limit at its two ends, and one past them.
+use limits::is_account;
+use limits::is_day;
+use limits::is_distance;
+use limits::is_instrument;
+use limits::is_kind;
+use limits::is_leverage;
+use limits::is_payment;
+use limits::is_percentage;
+use limits::is_price;
+use limits::is_rate;
+use limits::is_size;
+use limits::is_ticket;
+use limits::is_time;
+use limits::is_volume;
 use std::test::*;
-use terms::limits::is_account;
-use terms::limits::is_day;
-use terms::limits::is_distance;
-use terms::limits::is_instrument;
-use terms::limits::is_kind;
-use terms::limits::is_leverage;
-use terms::limits::is_payment;
-use terms::limits::is_percentage;
-use terms::limits::is_price;
-use terms::limits::is_rate;
-use terms::limits::is_size;
-use terms::limits::is_ticket;
-use terms::limits::is_time;
-use terms::limits::is_volume;
 use terms::quote::Prices;
 use terms::quote::Quote;
 

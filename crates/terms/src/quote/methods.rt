@@ -3,16 +3,19 @@ ghost use mathlib.Core.Path.{_≡_};
 ghost use mathlib.Core.Bool.{cond};
 ghost use Rattle.std.specs.Options.{mapped};
 ghost use Rattle.std.specs.declared.option.Option.the-variants.{Some, None};
-ghost use Rattle.terms.specs.Quotes.{quotable, shown, opening-price, closing-price};
-use crate::limits::is_price;
+ghost use Rattle.terms.specs.Levels.{market-price};
+ghost use Rattle.limits.specs.Bounds.{Price};
+ghost use Rattle.terms.specs.Quotes.{quotable, prices-of, opening-price, closing-price};
+use crate::level::LevelKind;
 use crate::quote::Prices;
 use crate::quote::Quote;
 use crate::side::Side;
+use limits::is_price;
 
 impl Quote {
     // The quote of two prices, unless one is outside the limits or the bid is above the ask.
     pub fn from_prices(prices: Prices) -> Option<Quote>
-        ensures { λ r. ⌜ mapped shown r ≡ cond (quotable prices) (Some prices) None ⌝ }
+        ensures { λ r. ⌜ mapped prices-of r ≡ cond (quotable prices) (Some prices) None ⌝ }
     {
         let Prices { bid, ask } = prices;
         if is_price(bid as u64) && is_price(ask as u64) && bid <= ask {
@@ -23,7 +26,7 @@ impl Quote {
     }
 
     pub fn prices(self) -> Prices
-        ensures { λ r. ⌜ r ≡ shown self ⌝ }
+        ensures { λ r. ⌜ r ≡ prices-of self ⌝ }
     {
         Prices {
             bid: self.bid,
@@ -33,7 +36,8 @@ impl Quote {
 
     // A buy opens at the ask, a sell at the bid.
     pub fn opening(self, side: Side) -> u32
-        ensures { λ r. ⌜ r ≡ opening-price side (shown self) ⌝ }
+        ensures value { λ r. ⌜ r ≡ opening-price side (prices-of self) ⌝ }
+        ensures priced { λ r. ⌜ Price r ⌝ }
     {
         match side {
             Side::Buy => self.ask,
@@ -43,8 +47,17 @@ impl Quote {
 
     // A buy closes at the bid, a sell at the ask.
     pub fn closing(self, side: Side) -> u32
-        ensures { λ r. ⌜ r ≡ closing-price side (shown self) ⌝ }
+        ensures value { λ r. ⌜ r ≡ closing-price side (prices-of self) ⌝ }
+        ensures priced { λ r. ⌜ Price r ⌝ }
     {
         self.opening(side.opposite())
+    }
+
+    // The market price of a level.
+    pub fn market(self, kind: LevelKind) -> u32
+        ensures value { λ r. ⌜ r ≡ market-price kind (prices-of self) ⌝ }
+        ensures priced { λ r. ⌜ Price r ⌝ }
+    {
+        kind.market(self.prices())
     }
 }

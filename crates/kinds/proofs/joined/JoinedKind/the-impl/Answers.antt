@@ -4,7 +4,7 @@ use Prim.Native.Nat.{_*_, _≤_}
 use lib.IntN.{pos, negℤ, natAbs}
 use Rattle.std.proofs.shelf.Tests.{false≢true}
 use Rattle.terms.specs.declared.side.Side.the-variants.{Buy, Sell}
-use Rattle.terms.specs.Limits.{Price, Volume, Leverage}
+use Rattle.limits.specs.Bounds.{Price, Volume, Leverage}
 use Rattle.kinds.specs.Ranges.{closing-ok, holding-ok}
 use Rattle.kinds.proofs.Routes.{both}
 use Rattle.kinds.proofs.joined.JoinedKind.the-impl.Needs as need

@@ -1,8 +1,8 @@
 use Prim.Native.Nat.{_*_}
 use native.Mathlib.Omega.{arith}
 use Rattle.std.proofs.shelf.Bits.{mul-le}
-use Rattle.terms.specs.Limits.{between}
-use Rattle.terms.proofs.Within.{between-says}
+use Rattle.limits.specs.Bounds.{between}
+use Rattle.limits.proofs.Within.{between-says}
 use Rattle.kinds.specs.Share.{share-admits}
 use Rattle.kinds.specs.Payments.{points}
 use Rattle.kinds.proofs.Admitted.{sized, sized-confined}

@@ -4,7 +4,6 @@ use Prim.Native.Nat.{ℕ, _≤_}
 use lib.Dec.{leb}
 use lib.IntN.{ℤ, pos, negℤ}
 use lib.Signed.{leZ}
-use Rattle.terms.specs.declared.contract.Contract.{Contract}
 
 -- from low to high, both included
 abbrev pub between : ℕ → ℕ → ℕ → Bool
@@ -40,8 +39,12 @@ abbrev pub rate-ok : ℤ → Bool
 rate-ok z = leZ (negℤ (pos 10000)) z && leZ z (pos 10000)
 
 -- one payment, in cents
-abbrev pub amount-ok : ℕ → Bool
-amount-ok n = between 1 1000000000000 n
+abbrev pub payment-ok : ℕ → Bool
+payment-ok n = between 1 1000000000000 n
+
+-- all accepted payments into one account, in cents
+abbrev pub paid-in-ok : ℕ → Bool
+paid-in-ok n = leb n 1000000000000000
 
 -- in seconds since the unit was set up
 abbrev pub time-ok : ℕ → Bool
@@ -59,10 +62,6 @@ kind-ok n = leb n 255
 
 abbrev pub size-ok : ℕ → Bool
 size-ok n = leb n 1000000
-
--- the three numbers of a contract
-abbrev pub contract-ok : Contract → Bool
-contract-ok c = kind-ok (c .number) && (size-ok (c .size) && percentage-ok (c .percentage))
 
 -- the same limits as facts
 abbrev pub Price : ℕ → Type 0
