@@ -1,1 +1,1 @@
-pub mod Papers
+pub mod WorkedDeal

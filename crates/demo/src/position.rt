@@ -1,8 +1,8 @@
 // A client's positions on paper, one in an instrument of each kind.
 ghost use mathlib.Core.Path.{_≡_};
-ghost use Rattle.demo.specs.Papers.{result-of, margin-of, candidate-of};
-use kinds::unit::unit_margin;
-use kinds::unit::unit_payment;
+ghost use Rattle.demo.specs.WorkedDeal.{result-of, margin-of, candidate-of};
+use joined::unit::unit_margin;
+use joined::unit::unit_payment;
 use rules::candidate::Candidate;
 use terms::contract::Contract;
 use terms::side::Side;

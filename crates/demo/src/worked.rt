@@ -2,7 +2,7 @@
 ghost use mathlib.Core.Path.{_≡_};
 ghost use Rattle.rules.specs.Closing.{Told};
 ghost use Rattle.rules.specs.Named.{at};
-ghost use Rattle.demo.specs.Papers.{on-paper};
+ghost use Rattle.demo.specs.WorkedDeal.{worked-candidates};
 use crate::position::Position;
 use rules::candidate::Candidate;
 use rules::closing::ClosingRule;
@@ -105,7 +105,7 @@ pub const STRUCK: [(&str, LevelKind, u32, Prices); 4] = [
 
 // The positions as a closing rule is told of them.
 pub fn candidates() -> [Candidate; 3]
-    ensures value { λ r. ⌜ r ≡ on-paper ⌝ }
+    ensures value { λ r. ⌜ r ≡ worked-candidates ⌝ }
     ensures told { λ r. ⌜ Told r ⌝ }
 {
     let [

@@ -1,11 +1,11 @@
 // Payments and margins of the unit's kinds.
 ghost use mathlib.Core.Path.{_≡_};
 ghost use lib.IntN.{pos, negsuc};
-ghost use Rattle.kinds.specs.Unit.{unit-pays, unit-needs};
+ghost use Rattle.joined.specs.UnitKinds.{unit-pays, unit-needs};
 ghost use Rattle.terms.specs.declared.side.Side.the-variants.{Buy, Sell};
 ghost use Rattle.figures.specs.Cases.{direct-of-10, indirect-of-100000};
-use kinds::unit::unit_margin;
-use kinds::unit::unit_payment;
+use joined::unit::unit_margin;
+use joined::unit::unit_payment;
 use terms::contract::Contract;
 use terms::side::Side;
 

@@ -2,7 +2,5 @@ pub mod Admitted
 pub mod Asked
 pub mod Bounds
 pub mod Everywhere
-pub mod Numbered
-pub mod Routes
 pub mod Shipped
 pub mod Sizes

@@ -1,9 +1,7 @@
 pub mod Amounts
 pub mod Direct
 pub mod Indirect
-pub mod Joined
 pub mod Laws
 pub mod Payments
 pub mod Ranges
 pub mod Share
-pub mod Unit

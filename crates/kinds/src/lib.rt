@@ -2,8 +2,6 @@
 mod amounts;
 pub mod direct;
 pub mod indirect;
-pub mod joined;
 pub mod kind;
 mod ranges;
 pub mod share;
-pub mod unit;

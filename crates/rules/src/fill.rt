@@ -23,7 +23,8 @@ pub impl FillRule for TermsRule as TermsFill {
 
     fn dealt(&self, works: WorksAs, level: u32, market: u32, gap: bool) -> u32 {
         match works {
-            WorksAs::Stop => { if gap { market } else { level } }
+            WorksAs::Stop if gap => market,
+            WorksAs::Stop => level,
             WorksAs::Limit => level,
         }
     }

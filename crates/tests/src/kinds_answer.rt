@@ -1,7 +1,7 @@
 // What the unit's kinds admit, pay and need, inside the limits and outside.
-use kinds::unit::unit_admitted;
-use kinds::unit::unit_margin;
-use kinds::unit::unit_payment;
+use joined::unit::unit_admitted;
+use joined::unit::unit_margin;
+use joined::unit::unit_payment;
 use std::test::*;
 use terms::contract::Contract;
 use terms::side::Side;
