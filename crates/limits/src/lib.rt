@@ -1,4 +1,4 @@
-// The limits of every number that a call may bring.
+// The limits of the numbers that calls bring, as constants and as tests.
 ghost use mathlib.Core.Path.{_≡_};
 ghost use Rattle.limits.specs.Bounds.{account-ok, instrument-ok, price-ok, volume-ok, leverage-ok, percentage-ok, distance-ok, rate-ok, payment-ok, paid-in-ok, time-ok, day-ok, ticket-ok, kind-ok, size-ok};
 

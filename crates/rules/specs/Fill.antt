@@ -11,7 +11,7 @@ use Rattle.limits.specs.Bounds.{Price}
 abbrev pub Deals : Type 0
 Deals = WorksAs → ℕ → ℕ → Bool → ℕ
 
--- the price dealt is the level or the market price
+-- the price dealt is the level or the market price, where both are inside their limits
 abbrev pub LevelOrMarket : Deals → Type 0
 LevelOrMarket deals = (w : WorksAs) (level market : ℕ) (gap : Bool) → Price level → Price market → (deals w level market gap ≡ level) ⊎ (deals w level market gap ≡ market)
 

@@ -9,7 +9,7 @@ use Rattle.terms.specs.declared.level.WorksAs.{WorksAs}
 use Rattle.terms.specs.declared.level.WorksAs.the-variants.{Stop, Limit}
 use Rattle.terms.specs.declared.quote.Prices.{Prices}
 
--- Buy Stop, Sell Stop and a stop loss work as a stop, the others as a limit
+-- what a fill rule is told of the level
 abbrev pub works-as : LevelKind → WorksAs
 works-as (Entry BuyLimit) = Limit
 works-as (Entry BuyStop) = Stop
@@ -18,7 +18,7 @@ works-as (Entry SellStop) = Stop
 works-as (StopLoss s) = Stop
 works-as (TakeProfit s) = Limit
 
--- Buy Limit, Sell Stop, a buy's stop loss and a sell's take profit are low, the others high
+-- the market price falls to it, and does not rise to it
 abbrev pub low : LevelKind → Bool
 low (Entry BuyLimit) = true
 low (Entry BuyStop) = false
@@ -29,7 +29,7 @@ low (StopLoss Sell) = false
 low (TakeProfit Buy) = false
 low (TakeProfit Sell) = true
 
--- Sell Limit, Sell Stop and a buy's stop loss and take profit look at the bid, the others at the ask
+-- its market price is the bid, and not the ask
 abbrev pub at-bid : LevelKind → Bool
 at-bid (Entry BuyLimit) = false
 at-bid (Entry BuyStop) = false

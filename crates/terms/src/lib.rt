@@ -1,6 +1,6 @@
-// The vocabulary of the dealing book: sides, orders, levels, quotes, contracts, records, refusals and their limits.
+// The vocabulary of the dealing book: sides, orders, levels, quotes, contracts, records and refusals.
 //
-// Money is whole signed cents, a volume hundredths of a lot, a price points, a time seconds since the unit was set up.
+// Amounts are in cents, volumes in hundredths of a lot, prices in points, times in seconds from the unit's setting up.
 pub mod contract;
 pub mod giver;
 pub mod level;
