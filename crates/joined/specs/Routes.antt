@@ -1,6 +1,6 @@
 -- Two kinds as one.
 use mathlib.Core.Bool.{Bool, false, cond}
-use Prim.Native.Nat.{ℕ, _-_, _/_, _%_}
+use Prim.Native.Nat.{_-_, _/_, _%_}
 use lib.Dec.{eqb}
 use lib.IntN.{pos}
 use Rattle.terms.specs.declared.contract.Contract.{Contract}

@@ -2,7 +2,6 @@
 ghost use mathlib.Core.Path.{_≡_};
 ghost use mathlib.Core.Bool.{false};
 ghost use Prim.Native.Nat.{_%_};
-ghost use lib.IntN.{pos};
 ghost use Rattle.joined.specs.Routes.{even, first-part, second-part, joined-admits, joined-pays, joined-needs};
 use kinds::kind::ContractKind;
 use terms::contract::Contract;

@@ -1,4 +1,4 @@
--- The numbers of a closing and of a margin, from their tests and to them.
+-- The numbers of a closing and of a margin, by their tests.
 use mathlib.Core.Path.{_≡_}
 use mathlib.Core.Bool.{true, _&&_}
 use Prim.Native.Nat.{ℕ}
@@ -12,11 +12,6 @@ closing-says o k v h =
     let p = and-parts (price-ok o) (price-ok k && volume-ok v) h in
     let q = and-parts (price-ok k) (volume-ok v) (p .1) in
     (between-says 1000 1000000 o (p .0), between-says 1000 1000000 k (q .0), between-says 1 10000 v (q .1))
-
-pub closing-true : (o k v : ℕ) → Price o → Price k → Volume v → closing-ok o k v ≡ true
-closing-true o k v ho hk hv =
-    and-from (price-ok o) (price-ok k && volume-ok v) (between-true 1000 1000000 o ho)
-    (and-from (price-ok k) (volume-ok v) (between-true 1000 1000000 k hk) (between-true 1 10000 v hv))
 
 pub holding-says : (l o v : ℕ) → holding-ok l o v ≡ true → Leverage l × Price o × Volume v
 holding-says l o v h =

@@ -1,10 +1,10 @@
 -- The laws of a kind that pays and needs as the shipped ones do, whatever it admits and a buy gains.
-use mathlib.Core.Path.{_≡_, refl, sym, ap, subst, _∙_}
+use mathlib.Core.Path.{_≡_, refl, ap}
 use mathlib.Core.Bool.{Bool, true, false, _&&_, cond}
 use Prim.Native.Nat.{ℕ, _*_, _≤_, _<_}
 use native.Mathlib.Omega.{arith}
 use lib.IntN.{ℤ, pos, negℤ, natAbs}
-use Rattle.std.proofs.shelf.Tests.{and-parts, and-from, cond-true, cond-both}
+use Rattle.std.proofs.shelf.Tests.{and-from, cond-true, cond-both}
 use Rattle.terms.specs.declared.contract.Contract.{Contract}
 use Rattle.terms.specs.declared.side.Side.{Side}
 use Rattle.terms.specs.declared.side.Side.the-variants.{Buy, Sell}
@@ -13,7 +13,7 @@ use Rattle.kinds.specs.Amounts.{by-side, rounded-up}
 use Rattle.kinds.specs.Laws.{Admits, Flat, Opposite, Bounded}
 use Rattle.kinds.specs.Payments.{Gains, paid, needed}
 use Rattle.kinds.specs.Ranges.{closing-ok, holding-ok}
-use Rattle.kinds.proofs.Asked.{closing-says, holding-true}
+use Rattle.kinds.proofs.Asked.{holding-true}
 use Rattle.kinds.proofs.Sizes.{natAbs-side, rounded-least, rounded-most}
 
 by-side-zero : (s : Side) (z : ℤ) → z ≡ pos 0 → by-side s z ≡ pos 0

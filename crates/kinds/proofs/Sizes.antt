@@ -1,14 +1,13 @@
 -- Sizes of amounts: of gains, of quotients and of what is rounded up.
-use mathlib.Core.Path.{_≡_, refl, sym, ap, _∙_, subst}
-use mathlib.Core.Logic.{_⊎_, inl, inr, ⊎-elim}
-use mathlib.Core.Bool.{Bool, true, false, cond}
-use Prim.Native.Nat.{ℕ, zero, suc, _+_, _-_, _*_, _/_, _%_, _^_, _≤_, _<_, min}
+use mathlib.Core.Path.{_≡_, refl, sym, ap, _∙_}
+use mathlib.Core.Logic.{⊎-elim}
+use Prim.Native.Nat.{ℕ, zero, suc, _+_, _-_, _*_, _/_, _%_, _^_, _≤_, _<_}
 use native.Mathlib.Omega.{arith}
 use native.Mathlib.Nat.{add-mul, zero-div}
-use lib.IntN.{ℤ, pos, negsuc, negℤ, natAbs, _+ℤ_, _-ℤ_, _*ℤ_}
-use lib.Signed.{mag, quotZ}
+use lib.IntN.{ℤ, pos, negsuc, negℤ, natAbs, _-ℤ_, _*ℤ_}
+use lib.Signed.{quotZ}
 use mir.Syntax.{w64}
-use mir.Val.{SFits, toZ, ofZ}
+use mir.Val.{SFits}
 use Rattle.std.proofs.shelf.Signed.{ints}
 use Rattle.std.proofs.shelf.Bits.{div-mul-add, div-add-mod', mod-below, div-below, le-div, mul-le}
 use Rattle.std.proofs.shelf.Tests.{cases-lt}
@@ -16,12 +15,12 @@ use Rattle.terms.specs.declared.side.Side.{Side}
 use Rattle.terms.specs.declared.side.Side.the-variants.{Buy, Sell}
 use Rattle.kinds.specs.Amounts.{gained, by-side, rounded-up}
 
-pub natAbs-neg : (z : ℤ) → natAbs (negℤ z) ≡ natAbs z
+natAbs-neg : (z : ℤ) → natAbs (negℤ z) ≡ natAbs z
 natAbs-neg (pos zero) = refl
 natAbs-neg (pos (suc n)) = refl
 natAbs-neg (negsuc n) = refl
 
-pub natAbs-times : (z : ℤ) (n : ℕ) → natAbs (z *ℤ pos n) ≡ natAbs z * n
+natAbs-times : (z : ℤ) (n : ℕ) → natAbs (z *ℤ pos n) ≡ natAbs z * n
 natAbs-times (pos a) n = refl
 natAbs-times (negsuc a) n = natAbs-neg (pos (suc a * n))
 
@@ -33,7 +32,7 @@ pub natAbs-side : (s : Side) (z : ℤ) → natAbs (by-side s z) ≡ natAbs z
 natAbs-side Buy z = refl
 natAbs-side Sell z = natAbs-neg z
 
-pub natAbs-diff : (o k : ℕ) → natAbs (pos k -ℤ pos o) ≡ (k - o) + (o - k)
+natAbs-diff : (o k : ℕ) → natAbs (pos k -ℤ pos o) ≡ (k - o) + (o - k)
 natAbs-diff o k =
     ⊎-elim
     (λ (h : k < o). let e : pos k -ℤ pos o ≡ negℤ (pos (o - k)) = omega (arith, ints) in ap natAbs e ∙ natAbs-neg (pos (o - k)) ∙ omega arith)

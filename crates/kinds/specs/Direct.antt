@@ -1,5 +1,5 @@
 -- A contract quoted in the currency of the accounts.
-use mathlib.Core.Bool.{Bool, _&&_}
+use mathlib.Core.Bool.{_&&_}
 use Prim.Native.Nat.{_*_}
 use lib.Dec.{eqb}
 use Rattle.limits.specs.Bounds.{between}

@@ -1,5 +1,5 @@
 -- A contract on a share.
-use mathlib.Core.Bool.{Bool, _&&_}
+use mathlib.Core.Bool.{_&&_}
 use Prim.Native.Nat.{_*_}
 use lib.Dec.{eqb}
 use Rattle.limits.specs.Bounds.{between}

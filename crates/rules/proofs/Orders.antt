@@ -5,7 +5,7 @@ use Prim.Native.Nat.{ℕ}
 use lib.Dec.{ltb, eqb}
 use lib.IntN.{ℤ}
 use lib.Signed.{ltZ, _<ℤ_}
-use Rattle.std.specs.Keys.{Total, rank, rankZ, signed}
+use Rattle.std.specs.Keys.{Total, rank, signed}
 use Rattle.std.specs.Orderings.{isLt, Ranked}
 use Rattle.std.specs.declared.cmp.Ordering.{Ordering}
 use Rattle.std.specs.declared.cmp.Ordering.the-variants.{Less, Equal, Greater}

@@ -1,5 +1,4 @@
 // Prices as tables keep them, and a quote, whose prices are fair by its type.
-ghost use mathlib.Core.Path.{_≡_};
 ghost use Prim.Native.Nat.{_≤_};
 ghost use Rattle.limits.specs.Bounds.{Price};
 

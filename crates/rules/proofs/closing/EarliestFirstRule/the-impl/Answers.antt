@@ -1,5 +1,3 @@
-use mathlib.Core.Path.{subst}
-use Prim.Native.Nat.{ℕ, _<_}
 use native.Mathlib.Omega.{arith}
 use lib.Dec.{ltb}
 use Rattle.std.specs.Keys.{unsigned}
