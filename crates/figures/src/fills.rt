@@ -1,4 +1,4 @@
-// The price dealt over a gap: the quote before was 13,500 / 13,502.
+// The price dealt where the rule is told that the quote came over a gap.
 ghost use mathlib.Core.Path.{_≡_};
 ghost use mathlib.Core.Bool.{true};
 ghost use Rattle.rules.specs.Fill.{terms-deals, first-quote-deals};

@@ -5,8 +5,6 @@ use Prim.Native.Nat.{ℕ}
 use lib.Dec.{eqb, ltb}
 use Rattle.std.specs.declared.option.Option.{Option}
 use Rattle.std.specs.declared.option.Option.the-variants.{Some, None}
-use Rattle.terms.specs.declared.order.OrderType.{OrderType}
-use Rattle.terms.specs.declared.side.Side.{Side}
 use Rattle.terms.specs.declared.protection.Protection.{Protection}
 use Rattle.instructions.specs.declared.instruction.Opening.{Opening}
 use Rattle.instructions.specs.declared.instruction.Closing.{Closing}
@@ -15,6 +13,10 @@ use Rattle.instructions.specs.declared.instruction.Modification.{Modification}
 use Rattle.instructions.specs.declared.instruction.Instruction.{Instruction}
 use Rattle.instructions.specs.declared.instruction.Instruction.the-variants as into
 use Rattle.instructions.specs.declared.submission.Submission.{Submission}
+use Rattle.instructions.specs.declared.submission.SubmittedOpening.{SubmittedOpening}
+use Rattle.instructions.specs.declared.submission.SubmittedClosing.{SubmittedClosing}
+use Rattle.instructions.specs.declared.submission.SubmittedPlacement.{SubmittedPlacement}
+use Rattle.instructions.specs.declared.submission.SubmittedModification.{SubmittedModification}
 use Rattle.instructions.specs.declared.submission.Submission.the-variants.{Open, Close, Place, Modify, Delete}
 use Rattle.instructions.specs.declared.checked.CheckedInstruction.{CheckedInstruction}
 use Rattle.instructions.specs.Inside.{inside, optionally}
@@ -35,24 +37,24 @@ optional n = cond (eqb n 0) None (Some n)
 abbrev pub protection-of : ℕ → ℕ → Protection
 protection-of sl tp = record { «stop_loss» = optional sl; «take_profit» = optional tp }
 
-abbrev pub opening-of : ℕ → Side → ℕ → ℕ → ℕ → ℕ → ℕ → Opening
-opening-of i s v p d sl tp = record { instrument = i; side = s; volume = v; price = p; deviation = d; protection = protection-of sl tp }
+abbrev pub opening-of : SubmittedOpening → Opening
+opening-of g = record { instrument = g .instrument; side = g .side; volume = g .volume; price = g .price; deviation = g .deviation; protection = protection-of (g .«stop_loss») (g .«take_profit») }
 
-abbrev pub closing-of : ℕ → ℕ → Closing
-closing-of t v = record { ticket = t; volume = v }
+abbrev pub closing-of : SubmittedClosing → Closing
+closing-of g = record { ticket = g .ticket; volume = g .volume }
 
-abbrev pub placement-of : ℕ → OrderType → ℕ → ℕ → ℕ → ℕ → ℕ → Placement
-placement-of i o v l sl tp e = record { instrument = i; order = o; volume = v; level = l; protection = protection-of sl tp; expiry = optional e }
+abbrev pub placement-of : SubmittedPlacement → Placement
+placement-of g = record { instrument = g .instrument; order = g .order; volume = g .volume; level = g .level; protection = protection-of (g .«stop_loss») (g .«take_profit»); expiry = optional (g .expiry) }
 
-abbrev pub modification-of : ℕ → ℕ → ℕ → ℕ → Modification
-modification-of t l sl tp = record { ticket = t; level = optional l; protection = protection-of sl tp }
+abbrev pub modification-of : SubmittedModification → Modification
+modification-of g = record { ticket = g .ticket; level = optional (g .level); protection = protection-of (g .«stop_loss») (g .«take_profit») }
 
 -- the instruction of the same numbers
 abbrev pub as-numbers : Submission → Instruction
-as-numbers (Open i s v p d sl tp) = into.Open (opening-of i s v p d sl tp)
-as-numbers (Close t v) = into.Close (closing-of t v)
-as-numbers (Place i o v l sl tp e) = into.Place (placement-of i o v l sl tp e)
-as-numbers (Modify t l sl tp) = into.Modify (modification-of t l sl tp)
+as-numbers (Open g) = into.Open (opening-of g)
+as-numbers (Close g) = into.Close (closing-of g)
+as-numbers (Place g) = into.Place (placement-of g)
+as-numbers (Modify g) = into.Modify (modification-of g)
 as-numbers (Delete t) = into.Delete t
 
 -- an expiry lies after the present time

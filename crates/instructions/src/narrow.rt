@@ -3,7 +3,7 @@ ghost use mathlib.Core.Path.{_≡_};
 ghost use mathlib.Core.Bool.{_&&_};
 ghost use Prim.Native.Nat.{_^_, _<_};
 ghost use lib.Dec.{ltb};
-ghost use Rattle.limits.specs.Bounds.{price-ok, time-ok};
+ghost use Rattle.limits.specs.Bounds.{price-ok, ticket-ok, time-ok};
 ghost use Rattle.instructions.specs.Inside.{inside, optionally, protection-ok, opening-ok, closing-ok, placement-ok, modification-ok};
 ghost use Rattle.instructions.specs.Submitted.{checked, passes, Passing, as-numbers, optional, protection-of, opening-of, closing-of, placement-of, modification-of};
 use crate::instruction::Closing;
@@ -12,15 +12,17 @@ use crate::instruction::Modification;
 use crate::instruction::Opening;
 use crate::instruction::Placement;
 use crate::submission::Submission;
+use crate::submission::SubmittedClosing;
+use crate::submission::SubmittedModification;
+use crate::submission::SubmittedOpening;
+use crate::submission::SubmittedPlacement;
 use limits::is_distance;
 use limits::is_instrument;
 use limits::is_price;
 use limits::is_ticket;
 use limits::is_time;
 use limits::is_volume;
-use terms::order::OrderType;
 use terms::protection::Protection;
-use terms::side::Side;
 
 // No level, or one inside the limits.
 fn is_optional_price(n: u64) -> bool
@@ -50,26 +52,22 @@ fn protection(stop_loss: u64, take_profit: u64) -> Option<Protection>
     }
 }
 
-fn opening(
-    instrument: u64,
-    side: Side,
-    volume: u64,
-    price: u64,
-    deviation: u64,
-    stop_loss: u64,
-    take_profit: u64,
-) -> Option<Opening>
-    ensures value { λ r. ⌜ r ≡ checked opening-ok (opening-of instrument side volume price deviation «stop_loss» «take_profit») ⌝ }
+fn opening(given: SubmittedOpening) -> Option<Opening>
+    ensures value { λ r. ⌜ r ≡ checked opening-ok (opening-of given) ⌝ }
     ensures within { λ r. ⌜ Passing opening-ok r ⌝ }
 {
-    let protection = protection(stop_loss, take_profit)?;
-    if is_instrument(instrument) && is_volume(volume) && is_price(price) && is_distance(deviation) {
+    let protection = protection(given.stop_loss, given.take_profit)?;
+    if is_instrument(given.instrument)
+        && is_volume(given.volume)
+        && is_price(given.price)
+        && is_distance(given.deviation)
+    {
         Some(Opening {
-            instrument: instrument as u8,
-            side,
-            volume: volume as u32,
-            price: price as u32,
-            deviation: deviation as u32,
+            instrument: given.instrument as u8,
+            side: given.side,
+            volume: given.volume as u32,
+            price: given.price as u32,
+            deviation: given.deviation as u32,
             protection,
         })
     } else {
@@ -77,14 +75,14 @@ fn opening(
     }
 }
 
-fn closing(ticket: u64, volume: u64) -> Option<Closing>
-    ensures value { λ r. ⌜ r ≡ checked closing-ok (closing-of ticket volume) ⌝ }
+fn closing(given: SubmittedClosing) -> Option<Closing>
+    ensures value { λ r. ⌜ r ≡ checked closing-ok (closing-of given) ⌝ }
     ensures within { λ r. ⌜ Passing closing-ok r ⌝ }
 {
-    if is_ticket(ticket) && is_volume(volume) {
+    if is_ticket(given.ticket) && is_volume(given.volume) {
         Some(Closing {
-            ticket: ticket as u16,
-            volume: volume as u32,
+            ticket: given.ticket as u16,
+            volume: given.volume as u32,
         })
     } else {
         None
@@ -98,49 +96,51 @@ fn is_optional_expiry(n: u64, time: u32) -> bool
     n == 0 || is_time(n) && (time as u64) < n
 }
 
-fn placement(
-    instrument: u64,
-    order: OrderType,
-    volume: u64,
-    level: u64,
-    stop_loss: u64,
-    take_profit: u64,
-    expiry: u64,
-    time: u32,
-) -> Option<Placement>
-    ensures value { λ r. ⌜ r ≡ checked (λ p. placement-ok p && optionally (ltb time) (p .expiry)) (placement-of instrument order volume level «stop_loss» «take_profit» expiry) ⌝ }
+fn placement(given: SubmittedPlacement, time: u32) -> Option<Placement>
+    ensures value { λ r. ⌜ r ≡ checked (λ p. placement-ok p && optionally (ltb time) (p .expiry)) (placement-of given) ⌝ }
     ensures within { λ r. ⌜ Passing placement-ok r ⌝ }
 {
-    let protection = protection(stop_loss, take_profit)?;
-    if is_instrument(instrument)
-        && is_volume(volume)
-        && is_price(level)
-        && is_optional_expiry(expiry, time)
+    let protection = protection(given.stop_loss, given.take_profit)?;
+    if is_instrument(given.instrument)
+        && is_volume(given.volume)
+        && is_price(given.level)
+        && is_optional_expiry(given.expiry, time)
     {
         Some(Placement {
-            instrument: instrument as u8,
-            order,
-            volume: volume as u32,
-            level: level as u32,
+            instrument: given.instrument as u8,
+            order: given.order,
+            volume: given.volume as u32,
+            level: given.level as u32,
             protection,
-            expiry: some_unless_zero(expiry),
+            expiry: some_unless_zero(given.expiry),
         })
     } else {
         None
     }
 }
 
-fn modification(ticket: u64, level: u64, stop_loss: u64, take_profit: u64) -> Option<Modification>
-    ensures value { λ r. ⌜ r ≡ checked modification-ok (modification-of ticket level «stop_loss» «take_profit») ⌝ }
+fn modification(given: SubmittedModification) -> Option<Modification>
+    ensures value { λ r. ⌜ r ≡ checked modification-ok (modification-of given) ⌝ }
     ensures within { λ r. ⌜ Passing modification-ok r ⌝ }
 {
-    let protection = protection(stop_loss, take_profit)?;
-    if is_ticket(ticket) && is_optional_price(level) {
+    let protection = protection(given.stop_loss, given.take_profit)?;
+    if is_ticket(given.ticket) && is_optional_price(given.level) {
         Some(Modification {
-            ticket: ticket as u16,
-            level: some_unless_zero(level),
+            ticket: given.ticket as u16,
+            level: some_unless_zero(given.level),
             protection,
         })
+    } else {
+        None
+    }
+}
+
+fn deletion(ticket: u64) -> Option<u16>
+    ensures value { λ r. ⌜ r ≡ checked ticket-ok ticket ⌝ }
+    ensures within { λ r. ⌜ Passing ticket-ok r ⌝ }
+{
+    if is_ticket(ticket) {
+        Some(ticket as u16)
     } else {
         None
     }
@@ -152,60 +152,10 @@ pub fn narrowed(submission: Submission, time: u32) -> Option<Instruction>
     ensures within { λ r. ⌜ Passing inside r ⌝ }
 {
     match submission {
-        Submission::Open {
-            instrument,
-            side,
-            volume,
-            price,
-            deviation,
-            stop_loss,
-            take_profit,
-        } => Some(Instruction::Open(
-            opening(
-                instrument,
-                side,
-                volume,
-                price,
-                deviation,
-                stop_loss,
-                take_profit,
-            )?,
-        )),
-        Submission::Close { ticket, volume } => {
-            Some(Instruction::Close(closing(ticket, volume)?))
-        }
-        Submission::Place {
-            instrument,
-            order,
-            volume,
-            level,
-            stop_loss,
-            take_profit,
-            expiry,
-        } => Some(Instruction::Place(
-            placement(
-                instrument,
-                order,
-                volume,
-                level,
-                stop_loss,
-                take_profit,
-                expiry,
-                time,
-            )?,
-        )),
-        Submission::Modify {
-            ticket,
-            level,
-            stop_loss,
-            take_profit,
-        } => Some(Instruction::Modify(modification(ticket, level, stop_loss, take_profit)?)),
-        Submission::Delete { ticket } => {
-            if is_ticket(ticket) {
-                Some(Instruction::Delete(ticket as u16))
-            } else {
-                None
-            }
-        }
+        Submission::Open(given) => Some(Instruction::Open(opening(given)?)),
+        Submission::Close(given) => Some(Instruction::Close(closing(given)?)),
+        Submission::Place(given) => Some(Instruction::Place(placement(given, time)?)),
+        Submission::Modify(given) => Some(Instruction::Modify(modification(given)?)),
+        Submission::Delete(ticket) => Some(Instruction::Delete(deletion(ticket)?)),
     }
 }

@@ -3,36 +3,46 @@ use terms::order::OrderType;
 use terms::side::Side;
 
 #[derive(Clone, Copy)]
+pub struct SubmittedOpening {
+    pub instrument: u64,
+    pub side: Side,
+    pub volume: u64,
+    pub price: u64,
+    pub deviation: u64,
+    pub stop_loss: u64,
+    pub take_profit: u64,
+}
+
+#[derive(Clone, Copy)]
+pub struct SubmittedClosing {
+    pub ticket: u64,
+    pub volume: u64,
+}
+
+#[derive(Clone, Copy)]
+pub struct SubmittedPlacement {
+    pub instrument: u64,
+    pub order: OrderType,
+    pub volume: u64,
+    pub level: u64,
+    pub stop_loss: u64,
+    pub take_profit: u64,
+    pub expiry: u64,
+}
+
+#[derive(Clone, Copy)]
+pub struct SubmittedModification {
+    pub ticket: u64,
+    pub level: u64,
+    pub stop_loss: u64,
+    pub take_profit: u64,
+}
+
+#[derive(Clone, Copy)]
 pub enum Submission {
-    Open {
-        instrument: u64,
-        side: Side,
-        volume: u64,
-        price: u64,
-        deviation: u64,
-        stop_loss: u64,
-        take_profit: u64,
-    },
-    Close {
-        ticket: u64,
-        volume: u64,
-    },
-    Place {
-        instrument: u64,
-        order: OrderType,
-        volume: u64,
-        level: u64,
-        stop_loss: u64,
-        take_profit: u64,
-        expiry: u64,
-    },
-    Modify {
-        ticket: u64,
-        level: u64,
-        stop_loss: u64,
-        take_profit: u64,
-    },
-    Delete {
-        ticket: u64,
-    },
+    Open(SubmittedOpening),
+    Close(SubmittedClosing),
+    Place(SubmittedPlacement),
+    Modify(SubmittedModification),
+    Delete(u64),
 }

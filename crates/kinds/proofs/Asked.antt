@@ -1,14 +1,14 @@
--- The numbers of a closing and of a margin, by their tests.
+-- The numbers of a deal and of a margin, by their tests.
 use mathlib.Core.Path.{_≡_}
 use mathlib.Core.Bool.{true, _&&_}
 use Prim.Native.Nat.{ℕ}
 use Rattle.std.proofs.shelf.Tests.{and-parts, and-from}
 use Rattle.limits.specs.Bounds.{price-ok, volume-ok, leverage-ok, Price, Volume, Leverage}
 use Rattle.limits.proofs.Within.{between-says, between-true}
-use Rattle.kinds.specs.Ranges.{closing-ok, holding-ok}
+use Rattle.kinds.specs.Ranges.{deal-ok, holding-ok}
 
-pub closing-says : (o k v : ℕ) → closing-ok o k v ≡ true → Price o × Price k × Volume v
-closing-says o k v h =
+pub deal-says : (o k v : ℕ) → deal-ok o k v ≡ true → Price o × Price k × Volume v
+deal-says o k v h =
     let p = and-parts (price-ok o) (price-ok k && volume-ok v) h in
     let q = and-parts (price-ok k) (volume-ok v) (p .1) in
     (between-says 1000 1000000 o (p .0), between-says 1000 1000000 k (q .0), between-says 1 10000 v (q .1))

@@ -12,7 +12,7 @@ use Rattle.limits.specs.Bounds.{Price, Volume, Leverage}
 use Rattle.kinds.specs.Amounts.{by-side, rounded-up}
 use Rattle.kinds.specs.Laws.{Admits, Flat, Opposite, Bounded}
 use Rattle.kinds.specs.Payments.{Gains, paid, needed}
-use Rattle.kinds.specs.Ranges.{closing-ok, holding-ok}
+use Rattle.kinds.specs.Ranges.{deal-ok, holding-ok}
 use Rattle.kinds.proofs.Asked.{holding-true}
 use Rattle.kinds.proofs.Sizes.{natAbs-side, rounded-least, rounded-most}
 
@@ -27,14 +27,14 @@ neg-cond false z = refl
 module _ (admits : Admits) (gains : Gains) where
   pub flat-paid : ((c : Contract) (o v : ℕ) → gains c o o v ≡ pos 0) → Flat admits (λ c. paid (admits c) gains c)
   flat-paid none c s o v _ _ _ =
-      cond-both (admits c && closing-ok o o v) (by-side s (gains c o o v)) (pos 0) (λ z. z ≡ pos 0) (λ _. by-side-zero s (gains c o o v) (none c o v)) (λ _. refl)
+      cond-both (admits c && deal-ok o o v) (by-side s (gains c o o v)) (pos 0) (λ z. z ≡ pos 0) (λ _. by-side-zero s (gains c o o v) (none c o v)) (λ _. refl)
 
   pub opposite-paid : Opposite admits (λ c. paid (admits c) gains c)
-  opposite-paid c o k v _ _ _ _ = neg-cond (admits c && closing-ok o k v) (gains c o k v)
+  opposite-paid c o k v _ _ _ _ = neg-cond (admits c && deal-ok o k v) (gains c o k v)
 
   pub bounded-paid : ((c : Contract) (o k v : ℕ) → admits c ≡ true → Price o → Price k → natAbs (gains c o k v) ≤ v * 100000000) → Bounded admits (λ c. paid (admits c) gains c)
   bounded-paid most c s o k v h ho hk _ =
-      cond-both (admits c && closing-ok o k v) (by-side s (gains c o k v)) (pos 0) (λ z. natAbs z ≤ v * 100000000)
+      cond-both (admits c && deal-ok o k v) (by-side s (gains c o k v)) (pos 0) (λ z. natAbs z ≤ v * 100000000)
       (λ _. omega (arith, natAbs-side s (gains c o k v), most c o k v h ho hk)) (λ _. omega arith)
 
 -- a margin of n / d, rounded up

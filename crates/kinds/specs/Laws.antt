@@ -7,7 +7,7 @@ use Rattle.terms.specs.declared.contract.Contract.{Contract}
 use Rattle.terms.specs.declared.side.Side.{Side}
 use Rattle.terms.specs.declared.side.Side.the-variants.{Buy, Sell}
 use Rattle.limits.specs.Bounds.{Price, Volume, Leverage}
-use Rattle.kinds.specs.Ranges.{contract-ok, closing-ok, holding-ok}
+use Rattle.kinds.specs.Ranges.{contract-ok, deal-ok, holding-ok}
 
 -- which contracts it admits
 abbrev pub Admits : Type 0
@@ -43,7 +43,7 @@ Margined admits needs = (c : Contract) (l o v : ℕ) → admits c ≡ true → L
 
 -- where the contract is not admitted, or a number is outside its limits, a closing pays nothing
 abbrev pub Unpaid : Admits → Pays → Type 0
-Unpaid admits pays = (c : Contract) (s : Side) (o k v : ℕ) → (admits c && closing-ok o k v) ≡ false → pays c s o k v ≡ pos 0
+Unpaid admits pays = (c : Contract) (s : Side) (o k v : ℕ) → (admits c && deal-ok o k v) ≡ false → pays c s o k v ≡ pos 0
 
 -- and a position needs no margin
 abbrev pub Unmargined : Admits → Needs → Type 0

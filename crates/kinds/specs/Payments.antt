@@ -5,7 +5,7 @@ use lib.IntN.{ℤ, pos}
 use Rattle.terms.specs.declared.contract.Contract.{Contract}
 use Rattle.terms.specs.declared.side.Side.{Side}
 use Rattle.kinds.specs.Amounts.{gained, by-side}
-use Rattle.kinds.specs.Ranges.{closing-ok, holding-ok}
+use Rattle.kinds.specs.Ranges.{deal-ok, holding-ok}
 
 -- what a buy gains, by opening price, closing price and volume
 abbrev pub Gains : Type 0
@@ -13,7 +13,7 @@ Gains = Contract → ℕ → ℕ → ℕ → ℤ
 
 -- nothing unless the contract is admitted and the numbers are inside their limits
 abbrev pub paid : Bool → Gains → Contract → Side → ℕ → ℕ → ℕ → ℤ
-paid admitted gains c s o k v = cond (admitted && closing-ok o k v) (by-side s (gains c o k v)) (pos 0)
+paid admitted gains c s o k v = cond (admitted && deal-ok o k v) (by-side s (gains c o k v)) (pos 0)
 
 abbrev pub needed : Bool → ℕ → ℕ → ℕ → ℕ → ℕ
 needed admitted amount l o v = cond (admitted && holding-ok l o v) amount 0

@@ -1,4 +1,4 @@
--- The numbers of a contract, of a closing and of a margin, inside their limits.
+-- The numbers of a contract, of a deal and of a margin, inside their limits.
 use mathlib.Core.Bool.{Bool, _&&_}
 use Prim.Native.Nat.{ℕ}
 use Rattle.limits.specs.Bounds.{kind-ok, size-ok, percentage-ok, price-ok, volume-ok, leverage-ok}
@@ -9,8 +9,8 @@ abbrev pub contract-ok : Contract → Bool
 contract-ok c = kind-ok (c .number) && (size-ok (c .size) && percentage-ok (c .percentage))
 
 -- opening price, closing price and volume
-abbrev pub closing-ok : ℕ → ℕ → ℕ → Bool
-closing-ok o k v = price-ok o && (price-ok k && volume-ok v)
+abbrev pub deal-ok : ℕ → ℕ → ℕ → Bool
+deal-ok o k v = price-ok o && (price-ok k && volume-ok v)
 
 -- leverage, opening price and volume
 abbrev pub holding-ok : ℕ → ℕ → ℕ → Bool

@@ -5,7 +5,7 @@ ghost use Prim.Native.Nat.{_*_, _^_, _<_, _≤_};
 ghost use lib.IntN.{pos, natAbs, _-ℤ_};
 ghost use Rattle.kinds.specs.Amounts.{gained, by-side, rounded-up};
 ghost use Rattle.kinds.specs.Payments.{paid, points};
-use crate::ranges::is_closing;
+use crate::ranges::is_deal;
 use terms::contract::Contract;
 use terms::side::Side;
 
@@ -48,7 +48,7 @@ pub fn point_payment(
     requires { ⌜ (admitted ≡ true → contract .size ≤ 100) ⌝ }
     ensures { λ r. ⌜ r ≡ paid admitted points contract side opened closed volume ⌝ }
 {
-    if admitted && is_closing(opened, closed, volume) {
+    if admitted && is_deal(opened, closed, volume) {
         signed(side, gain(opened, closed, units(volume, contract.size)))
     } else {
         0

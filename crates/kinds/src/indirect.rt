@@ -5,7 +5,7 @@ use crate::amounts::signed;
 use crate::amounts::units;
 use crate::amounts::up;
 use crate::kind::ContractKind;
-use crate::ranges::is_closing;
+use crate::ranges::is_deal;
 use crate::ranges::is_holding;
 use terms::contract::Contract;
 use terms::side::Side;
@@ -35,7 +35,7 @@ pub impl ContractKind for Indirect as IndirectKind {
         closed: u32,
         volume: u32,
     ) -> i64 {
-        if self.admitted(contract) && is_closing(opened, closed, volume) {
+        if self.admitted(contract) && is_deal(opened, closed, volume) {
             let foreign = gain(opened, closed, units(volume, contract.size));
             signed(side, foreign / closed as i64)
         } else {

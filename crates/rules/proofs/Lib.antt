@@ -1,3 +1,4 @@
 pub mod Firsts
 pub mod Naming
 pub mod Orders
+pub mod Tickets

@@ -1,6 +1,10 @@
 // Which submitted instructions are accepted, at time 100.
 use instructions::checked::CheckedInstruction;
 use instructions::submission::Submission;
+use instructions::submission::SubmittedClosing;
+use instructions::submission::SubmittedModification;
+use instructions::submission::SubmittedOpening;
+use instructions::submission::SubmittedPlacement;
 use std::test::*;
 use terms::order::OrderType;
 use terms::side::Side;
@@ -26,7 +30,7 @@ const OPENINGS: [(u64, u64, u64, u64, u64, u64, bool); 12] = [
 #[test]
 fn openings() -> Result<(), Fail> {
     for (instrument, volume, price, deviation, stop_loss, take_profit, accepted) in OPENINGS {
-        let submission = Submission::Open {
+        let submission = Submission::Open(SubmittedOpening {
             instrument,
             side: Side::Buy,
             volume,
@@ -34,7 +38,7 @@ fn openings() -> Result<(), Fail> {
             deviation,
             stop_loss,
             take_profit,
-        };
+        });
         check_eq(
             CheckedInstruction::from_submission(submission, TIME).is_some(),
             accepted,
@@ -56,7 +60,7 @@ const PLACEMENTS: [(u64, u64, bool); 6] = [
 #[test]
 fn placements() -> Result<(), Fail> {
     for (level, expiry, accepted) in PLACEMENTS {
-        let submission = Submission::Place {
+        let submission = Submission::Place(SubmittedPlacement {
             instrument: 1,
             order: OrderType::SellStop,
             volume: 1,
@@ -64,7 +68,7 @@ fn placements() -> Result<(), Fail> {
             stop_loss: 0,
             take_profit: 0,
             expiry,
-        };
+        });
         check_eq(
             CheckedInstruction::from_submission(submission, TIME).is_some(),
             accepted,
@@ -86,14 +90,14 @@ const TICKETS: [(u64, u64, u64, bool, bool, bool); 6] = [
 #[test]
 fn tickets() -> Result<(), Fail> {
     for (ticket, level, volume, modified, closed, deleted) in TICKETS {
-        let modify = Submission::Modify {
+        let modify = Submission::Modify(SubmittedModification {
             ticket,
             level,
             stop_loss: 0,
             take_profit: 0,
-        };
-        let close = Submission::Close { ticket, volume };
-        let delete = Submission::Delete { ticket };
+        });
+        let close = Submission::Close(SubmittedClosing { ticket, volume });
+        let delete = Submission::Delete(ticket);
         check_eq(
             CheckedInstruction::from_submission(modify, TIME).is_some(),
             modified,

@@ -3,10 +3,10 @@ use mathlib.Core.List.{List, [], _∷_, _++_}
 use Prim.Native.Nat.{ℕ, _<_}
 use native.Mathlib.Omega.{arith}
 use lib.ListN.{length, getD, take}
-use Rattle.std.proofs.shelf.Lists.{length-set, length-map, take-more, take-more-set, take-all, getD-map}
-use Rattle.rules.specs.declared.candidate.Candidate.{Candidate}
+use Rattle.std.proofs.shelf.Lists.{length-set, take-more, take-more-set, take-all}
 use Rattle.rules.specs.Closing.{tickets}
 use Rattle.rules.specs.Named.{blank}
+use Rattle.rules.proofs.Tickets.{length-tickets, ticket-at}
 use Rattle.rules.proofs.closing.ticket_numbers.Needs as need
 
 pub loop-i-again : need.loop-i-again
@@ -16,8 +16,8 @@ loop-i-again c =
     let ns = c .loop-i .numbers in
     let y = getD cs i blank .ticket in
     let l : i < length cs = omega arith in
-    let long = length-map cs (λ (x : Candidate). x .ticket) in
-    let read : y ≡ getD (tickets cs) i 0 = sym (getD-map (λ (x : Candidate). x .ticket) cs i blank 0 l) in (
+    let long = length-tickets cs in
+    let read : y ≡ getD (tickets cs) i 0 = sym (ticket-at cs i l) in (
       length-set ns i y ∙ c .loop-i .inv .0,
       take-more-set ns i y (omega (arith, c .loop-i .inv .0)) ∙ ap (λ (f : List ℕ). f ++ (y ∷ [])) (c .loop-i .inv .1)
           ∙ ap (λ (n : ℕ). take i (tickets cs) ++ (n ∷ [])) read ∙ sym (take-more (tickets cs) i 0 (omega arith)),
@@ -26,6 +26,6 @@ loop-i-again c =
 pub returns : need.returns
 returns c =
     let cs = c .args .candidates .now in
-    let long = length-map cs (λ (x : Candidate). x .ticket) in
+    let long = length-tickets cs in
     let whole : length cs ≡ c .loop-i .i = omega arith in
     ap (λ (n : ℕ). take n (c .loop-i .numbers)) whole ∙ c .loop-i .inv .1 ∙ take-all (c .loop-i .i) (tickets cs) (omega arith)
