@@ -1,4 +1,7 @@
 // One client's account on a moving market, printed as it is worked out.
+
+#![tactic(auto)]
+
 mod client;
 mod closing;
 mod fills;

@@ -1,4 +1,7 @@
 // Contract kinds: which contracts a kind admits, what a closing pays and what margin a position needs.
+
+#![tactic(auto)]
+
 mod amounts;
 pub mod direct;
 pub mod indirect;

@@ -1,4 +1,7 @@
 // The limits of the numbers that calls bring, as constants and as tests.
+
+#![tactic(auto)]
+
 ghost use Rattle.std.specs.Prelude.{◌≡◌};
 ghost use Rattle.limits.specs.Bounds.{account_ok, instrument_ok, price_ok, volume_ok, leverage_ok, percentage_ok, distance_ok, rate_ok, payment_ok, paid_in_ok, time_ok, day_ok, ticket_ok, kind_ok, size_ok};
 

@@ -1,4 +1,7 @@
 // The open positions of one account at present prices: their floating results and margins, and the sums that an account is judged by.
+
+#![tactic(auto)]
+
 mod lists;
 mod margins;
 pub mod position;

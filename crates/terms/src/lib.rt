@@ -1,6 +1,9 @@
 // The vocabulary of the dealing book: sides, orders, levels, quotes, contracts, records and refusals.
 //
 // Amounts are in cents, volumes in hundredths of a lot, prices in points, times in seconds from the unit's setting up.
+
+#![tactic(auto)]
+
 pub mod contract;
 pub mod giver;
 pub mod level;

@@ -1,4 +1,7 @@
 // What one account is worth on a market, for any contract kinds: floating results, equity, margin and free margin.
+
+#![tactic(auto)]
+
 pub mod account;
 mod gather;
 pub mod position;
