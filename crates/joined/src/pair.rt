@@ -2,7 +2,7 @@
 ghost use Rattle.std.specs.Prelude.{◌≡◌, ◌%◌, false};
 ghost use Rattle.joined.specs.Routes.{even, first_part, second_part, joined_admits, joined_pays, joined_needs};
 ghost use Rattle.joined.specs.Routed.{joined_flat, joined_opposite, joined_bounded, joined_margined, joined_unpaid, joined_unmargined};
-ghost use borrow.Author.Rules;
+ghost use Rattle.std.proofs.Common.{rules};
 
 use kinds::kind::ContractKind;
 use terms::contract::Contract;
@@ -46,7 +46,7 @@ impl<A: ContractKind, B: ContractKind> ContractKind for Joined<A, B> {
 
     ghost needs = { λ k. joined_needs (A.ContractKind.needs k.first) (B.ContractKind.needs k.second) };
 
-    ghost confined = { Prim.search Needs.needs };
+    ghost confined = { Prim.search rules };
 
     ghost flat = { λ k.
         let a = A.ContractKind in

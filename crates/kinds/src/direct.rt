@@ -8,7 +8,7 @@ ghost use Rattle.kinds.specs.Payments.{points};
 ghost use Rattle.kinds.specs.Shipped.{flat_paid, opposite_paid, bounded_paid, margined_needed};
 ghost use Rattle.kinds.specs.Sizes.{gained_flat};
 ghost use Rattle.kinds.specs.Bounds.{points_most, worth_most, worth_least};
-ghost use borrow.Author.Rules;
+ghost use Rattle.std.proofs.Common.{rules};
 
 use crate::amounts::{point_payment, up, worth};
 use crate::kind::ContractKind;
@@ -39,9 +39,9 @@ impl ContractKind for Direct {
         let w = worth_most v o c.size hv.1 ho.1 s.0.1 in
         margined_needed (direct_admits c) (v * o * c.size) l l o v h hl ho hv (omega arith) (worth_least v o c.size hv.0 (omega arith) s.0.0) (omega arith) };
 
-    ghost unpaid = { Prim.search Needs.needs };
+    ghost unpaid = { Prim.search rules };
 
-    ghost unmargined = { Prim.search Needs.needs };
+    ghost unmargined = { Prim.search rules };
 
     fn admitted(&self, contract: Contract) -> bool {
         contract.number == 0

@@ -8,7 +8,7 @@ ghost use Rattle.kinds.specs.Shipped.{flat_paid, opposite_paid, bounded_paid, ma
 ghost use Rattle.kinds.specs.Sizes.{converted_flat};
 ghost use Rattle.kinds.specs.Bounds.{converted_most};
 ghost use Rattle.std.proofs.lemmas.Nat.{mul-le};
-ghost use borrow.Author.Rules;
+ghost use Rattle.std.proofs.Common.{rules};
 
 use crate::amounts::{gain, signed, units, up};
 use crate::kind::ContractKind;
@@ -39,9 +39,9 @@ impl ContractKind for Indirect {
         let w = mul-le v c.size 10000 100000 hv.1 s.0.1 in
         margined_needed (indirect_admits c) (v * c.size) l l o v h hl ho hv (omega arith) (mul-le 1 1 v c.size hv.0 s.0.0) (omega arith) };
 
-    ghost unpaid = { Prim.search Needs.needs };
+    ghost unpaid = { Prim.search rules };
 
-    ghost unmargined = { Prim.search Needs.needs };
+    ghost unmargined = { Prim.search rules };
 
     fn admitted(&self, contract: Contract) -> bool {
         contract.number == 0

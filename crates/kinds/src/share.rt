@@ -10,7 +10,7 @@ ghost use Rattle.kinds.specs.Shipped.{flat_paid, opposite_paid, bounded_paid, ma
 ghost use Rattle.kinds.specs.Sizes.{gained_flat};
 ghost use Rattle.kinds.specs.Bounds.{points_most, worth_most, worth_least};
 ghost use Rattle.std.proofs.lemmas.Nat.{mul-le};
-ghost use borrow.Author.Rules;
+ghost use Rattle.std.proofs.Common.{rules};
 
 use crate::amounts::{point_payment, up, worth};
 use crate::kind::ContractKind;
@@ -44,9 +44,9 @@ impl ContractKind for Share {
         margined_needed (share_admits c) (v * o * c.size * c.percentage) 100 l o v h hl ho hv (omega arith)
         (mul-le 1 1 (v * o * c.size) c.percentage (worth_least v o c.size hv.0 (omega arith) s.0.0) p.0) (omega arith) };
 
-    ghost unpaid = { Prim.search Needs.needs };
+    ghost unpaid = { Prim.search rules };
 
-    ghost unmargined = { Prim.search Needs.needs };
+    ghost unmargined = { Prim.search rules };
 
     fn admitted(&self, contract: Contract) -> bool {
         contract.number == 0

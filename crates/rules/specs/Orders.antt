@@ -3,29 +3,24 @@ use Rattle.std.specs.Prelude.{◌≡◌, ℕ, Bool, true, false, cond, ltb, List
 use Rattle.std.specs.declared.cmp.Ordering.TheVariants.{Less, Equal, Greater}
 use Rattle.std.specs.declared.cmp.Ordering.{Ordering}
 use Rattle.std.proofs.Common.{arith}
-use Rattle.std.specs.Cmp.{IsTotalOrder, int_cmp_total, nat_cmp_total}
-use Rattle.std.specs.Ordering.{is_lt, MatchOrdering, int_cmp, nat_cmp}
+use Rattle.std.specs.Cmp.{IsTotalOrder, on_total, int_cmp_total, nat_cmp_total}
+use Rattle.std.specs.Ordering.{is_lt, int_cmp, nat_cmp, on}
 use Rattle.rules.specs.declared.candidate.Candidate.{Candidate}
 use Rattle.rules.specs.Closing.{Told, tickets, worst_first, earliest_first}
 use Rattle.rules.specs.Least.{FirstLeast}
 use Rattle.rules.specs.Firsts.{ranked, first_least_is}
 use Rattle.rules.specs.Tickets.{length-tickets}
 
-abbrev pub by_result : IsTotalOrder (λ (x y : Candidate) (r : Ordering). MatchOrdering r (x.result <ℤ y.result) (x.result ≡ y.result) (y.result <ℤ x.result))
-by_result = record {
-  cmp = λ x y. int_cmp x.result y.result;
-  says = λ x y. int_cmp_total.says x.result y.result;
-  flip = λ x y. int_cmp_total.antisymm x.result y.result;
-  trans = λ x y z. int_cmp_total.trans x.result y.result z.result;
-  alike = λ x y z. int_cmp_total.congr x.result y.result z.result;
-}
+-- candidates are ordered by their results alone
+pub by_result : IsTotalOrder (on (λ (c : Candidate). c.result) int_cmp)
+by_result = on_total (λ (c : Candidate). c.result) int_cmp_total
 
 less_first : (s t : Bool) (u v : Ordering) → is_lt u ≡ false → is_lt v ≡ false → is_lt (cond s Less (cond t u v)) ≡ s
 less_first true t u v p q = refl
 less_first false true u v p q = p
 less_first false false u v p q = q
 
-pub less_result : (x y : Candidate) → is_lt (by_result.cmp x y) ≡ int_lt x.result y.result
+pub less_result : (x y : Candidate) → is_lt (int_cmp x.result y.result) ≡ int_lt x.result y.result
 less_result x y = less_first (int_lt x.result y.result) (int_lt y.result x.result) Greater Equal refl refl
 
 pub less_number : (a b : ℕ) → is_lt (nat_cmp a b) ≡ nat_lt a b

@@ -1,10 +1,7 @@
 // An open position as a closing rule is told of it.
-ghost use Rattle.std.specs.Prelude.{◌≡◌, ◌<ℤ◌, IsSomeAnd, Some, Decides, refl};
-ghost use Rattle.std.specs.Ordering.{MatchOrdering, int_eq, on, int_cmp};
-ghost use Rattle.std.specs.Cmp.Rules.{comparing};
 ghost use Rattle.std.proofs.Common.{rules};
-ghost use Rattle.std.specs.Cmp as Keys;
-ghost use Rattle.std.specs.Cmp.{partial_order_from_agreeing_total};
+ghost use Rattle.std.specs.Cmp.Rules.{comparing};
+ghost use Rattle.std.specs.Ordering.{int_eq, int_cmp, on, as_partial_cmp};
 
 use std::cmp::Ordering;
 
@@ -19,7 +16,7 @@ pub struct Candidate {
 impl PartialEq for Candidate {
     ghost eq = { on (λ v. v.result) int_eq };
 
-    ghost laws = { Keys.partial_equiv_from_equiv (Prim.search (comparing, rules)) };
+    ghost laws = { Prim.search (comparing, rules) };
 
     fn eq(&self, other: &Candidate) -> bool {
         self.result == other.result
@@ -31,9 +28,9 @@ impl Eq for Candidate {
 }
 
 impl PartialOrd for Candidate {
-    ghost partial_cmp = { λ x y. Some (int_cmp x.result y.result) };
+    ghost partial_cmp = { as_partial_cmp (on (λ v. v.result) int_cmp) };
 
-    ghost laws = { partial_order_from_agreeing_total (λ x y. int_cmp x.result y.result) (Prim.search (comparing, rules)) (λ _ _. refl) (Prim.search (comparing, rules)) };
+    ghost laws = { Prim.search (comparing, rules) };
 
     fn partial_cmp(&self, other: &Candidate) -> Option<Ordering> {
         Some(self.cmp(other))
@@ -41,7 +38,7 @@ impl PartialOrd for Candidate {
 }
 
 impl Ord for Candidate {
-    ghost cmp = { λ x y. int_cmp x.result y.result };
+    ghost cmp = { on (λ v. v.result) int_cmp };
 
     ghost total = { Prim.search (comparing, rules) };
 

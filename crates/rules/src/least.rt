@@ -1,6 +1,5 @@
 // The search for the first least element of a slice, for every element type with an order.
 ghost use Rattle.std.specs.Prelude.{◌≡◌, ◌<◌, ◌≤◌, length};
-ghost use Rattle.std.specs.Cmp.{IsTotalOrder};
 ghost use Rattle.std.specs.Ordering.{is_lt};
 ghost use Rattle.rules.specs.Least.{FirstLeast};
 
@@ -17,7 +16,7 @@ fn least_of_first<T: Ord>(xs: &[T], n: usize) -> usize
     requires some { 0 < n }
     requires there { n ≤ length xs.now }
     ensures within { result < n }
-    ensures least { (o : IsTotalOrder T.Ord.cmp) → FirstLeast (λ x y. is_lt (T.Ord.cmp x y)) xs.now n result }
+    ensures least { FirstLeast (λ x y. is_lt (T.Ord.cmp x y)) xs.now n result }
 {
     let mut best = 0;
     for i in 1..n {

@@ -5,8 +5,8 @@ use Rattle.positions.specs.Positions.{blank, floating}
 use Rattle.positions.proofs.Totals.{floating_more}
 use Rattle.positions.proofs.lists.sum_of_results.Goals as goal
 
-pub overflow-add-sum : goal.overflow-add-sum
-overflow-add-sum c =
+pub overflow_add-sum : goal.overflow_add-sum
+overflow_add-sum c =
     let one = (c.requires.sized c.loop-position.position-index blank c.loop-position-test.true).0 in
     omega (arith, ints)
 

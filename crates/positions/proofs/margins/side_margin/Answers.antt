@@ -6,8 +6,8 @@ use Rattle.positions.proofs.Totals.{side_margin_on, side_margin_off}
 use Rattle.positions.proofs.margins.side_margin.Goals as goal
 use Rattle.positions.proofs.margins.side_margin.Goals.{then-is-on, else-is-on}
 
-pub overflow-add-sum : goal.overflow-add-sum
-overflow-add-sum c = omega (arith, (c.requires.sized c.loop-position.position-index blank c.loop-position-test.true).1)
+pub overflow_add-sum : goal.overflow_add-sum
+overflow_add-sum c = omega (arith, (c.requires.sized c.loop-position.position-index blank c.loop-position-test.true).1)
 
 pub loop-position-preserved : goal.loop-position-preserved
 loop-position-preserved c =

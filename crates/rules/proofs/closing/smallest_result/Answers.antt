@@ -3,4 +3,4 @@ use Rattle.rules.specs.Orders.{by_result, less_result}
 use Rattle.rules.proofs.closing.smallest_result.Goals as goal
 
 pub returns : goal.returns
-returns c = first_least_found by_result _ less_result c.args.candidates.now c.first_least.result (c.first_least.ensures.least by_result)
+returns c = first_least_found by_result _ less_result c.args.candidates.now c.first_least.result c.first_least.ensures.least

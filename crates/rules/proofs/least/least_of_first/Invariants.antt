@@ -1,4 +1,3 @@
-use Rattle.std.specs.Cmp.{IsTotalOrder}
 use Rattle.std.specs.Ordering.{is_lt}
 use Rattle.std.specs.List.{IsFirstBest}
 use Rattle.std.proofs.Common.{◌<◌}
@@ -6,4 +5,4 @@ use Rattle.rules.proofs.least.least_of_first.Given as goal
 
 -- the best so far is the first least of what was seen
 abbrev pub invariant-loop-i : goal.invariant-loop-i
-invariant-loop-i g l = (l.best < l.i) × ((o : IsTotalOrder g.T.Ord.cmp) → IsFirstBest (λ x y. is_lt (g.T.Ord.cmp x y)) l.xs l.i l.best)
+invariant-loop-i g l = (l.best < l.i) × IsFirstBest (λ x y. is_lt (g.T.Ord.cmp x y)) l.xs l.i l.best
