@@ -5,7 +5,7 @@ use Rattle.std.proofs.lemmas.Bool.{ltb-true, ltb-false}
 use Rattle.positions.specs.declared.position.OpenPosition.{OpenPosition}
 use Rattle.positions.specs.Positions.{blank}
 use Rattle.positions.proofs.lists.largest_margin.Goals as goal
-use Rattle.positions.proofs.lists.largest_margin.Goals.{then-is-lighter, else-is-lighter}
+use Rattle.positions.proofs.lists.largest_margin.Goals.{then-is_lighter, else-is_lighter}
 
 abbrev margin : OpenPosition → ℕ
 margin p = p.margin
@@ -19,8 +19,8 @@ loop-i-preserved c =
     let bl : b < length ps = omega (arith, c.loop-i.invariant.0) in
     let at_i : (d : OpenPosition) → margin (get_or ps i d) ≡ margin (get_or ps i blank) = λ d. ap margin (get_or_default ps i d blank l) in
     let at_b : (d : OpenPosition) → margin (get_or ps b d) ≡ margin (get_or ps b blank) = λ d. ap margin (get_or_default ps b d blank bl) in
-    let told = sym c.is-lighter.ensures in
-    elim c.if-is-lighter.branch [
-      | then-is-lighter w ↦ rw w.best-is (best_takes margin ps i b c.loop-i.invariant (λ d. omega (arith, at_i d, at_b d, ltb-true _ _ (told ∙ w.if-is-lighter.true))))
-      | else-is-lighter w ↦ rw w.best-is (best_keeps margin ps i b c.loop-i.invariant (λ d. omega (arith, at_i d, at_b d, ltb-false _ _ (told ∙ w.if-is-lighter.false))))
+    let told = sym c.is_lighter.ensures in
+    elim c.if-is_lighter.branch [
+      | then-is_lighter w ↦ rw w.best-is (best_takes margin ps i b c.loop-i.invariant (λ d. omega (arith, at_i d, at_b d, ltb-true _ _ (told ∙ w.if-is_lighter.true))))
+      | else-is_lighter w ↦ rw w.best-is (best_keeps margin ps i b c.loop-i.invariant (λ d. omega (arith, at_i d, at_b d, ltb-false _ _ (told ∙ w.if-is_lighter.false))))
     ]
