@@ -62,14 +62,14 @@ impl Account {
     }
 
     // Takes volume off a ticket and pays a result, and takes the ticket out with the last of its volume. That it is a position, the caller has seen.
-    pub fn close(&mut self, number: u16, volume: u32, res: i64)
+    pub fn close(&mut self, number: u16, volume: u32, payment: i64)
         requires volume { volume ≤ volume_of (lookup number (model self.old).tickets) }
-        requires res { unsigned_abs res ≤ volume * 100000000 }
-        ensures after { model self.new ≡ closed number volume res (model self.old) }
+        requires payment { unsigned_abs payment ≤ volume * 100000000 }
+        ensures after { model self.new ≡ closed number volume payment (model self.old) }
         ensures others { (n : ℕ) → n ≢ number → lookup n (model self.new).tickets ≡ lookup n (model self.old).tickets }
     {
         self.table.reduce(number, volume);
-        self.balance = plus(self.balance, res);
+        self.balance = plus(self.balance, payment);
     }
 
     // Counts a night, and adds the swaps of all positions to the balance.
