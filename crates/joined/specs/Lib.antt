@@ -1,3 +1,3 @@
 pub mod Routes
 pub mod UnitKinds
-pub mod Routed
+pub mod Lemmas

@@ -1,7 +1,7 @@
 // Two kinds as one: even numbers are the first's, odd ones the second's.
 ghost use Rattle.std.specs.Prelude.{◌≡◌, ◌%◌, false};
 ghost use Rattle.joined.specs.Routes.{even, first_part, second_part, joined_admits, joined_pays, joined_needs};
-ghost use Rattle.joined.specs.Routed.{joined_flat, joined_opposite, joined_bounded, joined_margined, joined_unpaid, joined_unmargined};
+ghost use Rattle.joined.specs.Lemmas.Routed.{joined_flat, joined_opposite, joined_bounded, joined_margined, joined_unpaid, joined_unmargined};
 ghost use Rattle.std.proofs.Common.{rules};
 
 use kinds::kind::ContractKind;

@@ -7,7 +7,7 @@ use Rattle.terms.specs.declared.side.Side.{Side}
 use Rattle.terms.specs.declared.side.Side.TheVariants.{Buy, Sell}
 use Rattle.kinds.specs.Laws.{Admits, Pays, Needs, Flat, Opposite, Bounded, Margined, Unpaid, Unmargined}
 use Rattle.kinds.specs.Ranges.{deal_ok, holding_ok}
-use Rattle.kinds.specs.Asked.{deal_says, holding_says}
+use Rattle.kinds.specs.Lemmas.Asked.{deal_says, holding_says}
 
 module _ (admits : Admits) where
   by_deal : (c : Contract) (o k v : ℕ) (P : Type 0) → (admits c ≡ true → Price o → Price k → Volume v → P) → ((admits c && deal_ok o k v) ≡ false → P) → P

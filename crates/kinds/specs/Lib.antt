@@ -5,8 +5,4 @@ pub mod Laws
 pub mod Payments
 pub mod Ranges
 pub mod Share
-pub mod Admitted
-pub mod Shipped
-pub mod Asked
-pub mod Sizes
-pub mod Bounds
+pub mod Lemmas

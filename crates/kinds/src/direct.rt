@@ -3,11 +3,11 @@ ghost use Rattle.kinds.specs.Direct.{direct_admits, direct_pays, direct_needs};
 ghost use Rattle.std.proofs.Common.{arith};
 ghost use Rattle.std.specs.Prelude.{◌*◌, ◌==◌};
 ghost use Rattle.std.proofs.lemmas.Bool.{eqb-true};
-ghost use Rattle.kinds.specs.Admitted.{sized_confined, sized};
+ghost use Rattle.kinds.specs.Lemmas.Admitted.{sized_confined, sized};
 ghost use Rattle.kinds.specs.Payments.{points};
-ghost use Rattle.kinds.specs.Shipped.{flat_paid, opposite_paid, bounded_paid, margined_needed};
-ghost use Rattle.kinds.specs.Sizes.{gained_flat};
-ghost use Rattle.kinds.specs.Bounds.{points_most, worth_most, worth_least};
+ghost use Rattle.kinds.specs.Lemmas.Shipped.{flat_paid, opposite_paid, bounded_paid, margined_needed};
+ghost use Rattle.kinds.specs.Lemmas.Sizes.{gained_flat};
+ghost use Rattle.kinds.specs.Lemmas.Bounds.{points_most, worth_most, worth_least};
 ghost use Rattle.std.proofs.Common.{rules};
 
 use crate::amounts::{point_payment, up, worth};

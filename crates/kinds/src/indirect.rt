@@ -3,10 +3,10 @@ ghost use Rattle.kinds.specs.Indirect.{indirect_admits, indirect_pays, indirect_
 ghost use Rattle.std.proofs.Common.{arith};
 ghost use Rattle.std.specs.Prelude.{◌*◌, ◌==◌};
 ghost use Rattle.std.proofs.lemmas.Bool.{eqb-true};
-ghost use Rattle.kinds.specs.Admitted.{sized_confined, sized};
-ghost use Rattle.kinds.specs.Shipped.{flat_paid, opposite_paid, bounded_paid, margined_needed};
-ghost use Rattle.kinds.specs.Sizes.{converted_flat};
-ghost use Rattle.kinds.specs.Bounds.{converted_most};
+ghost use Rattle.kinds.specs.Lemmas.Admitted.{sized_confined, sized};
+ghost use Rattle.kinds.specs.Lemmas.Shipped.{flat_paid, opposite_paid, bounded_paid, margined_needed};
+ghost use Rattle.kinds.specs.Lemmas.Sizes.{converted_flat};
+ghost use Rattle.kinds.specs.Lemmas.Bounds.{converted_most};
 ghost use Rattle.std.proofs.lemmas.Nat.{mul-le};
 ghost use Rattle.std.proofs.Common.{rules};
 

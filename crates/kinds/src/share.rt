@@ -3,12 +3,12 @@ ghost use Rattle.kinds.specs.Share.{share_admits, share_pays, share_needs};
 ghost use Rattle.std.proofs.Common.{arith};
 ghost use Rattle.limits.specs.Bounds.{between};
 ghost use Rattle.limits.proofs.Within.{between_says};
-ghost use Rattle.kinds.specs.Admitted.{sized_confined, sized};
+ghost use Rattle.kinds.specs.Lemmas.Admitted.{sized_confined, sized};
 ghost use Rattle.std.specs.Prelude.{◌*◌};
 ghost use Rattle.kinds.specs.Payments.{points};
-ghost use Rattle.kinds.specs.Shipped.{flat_paid, opposite_paid, bounded_paid, margined_needed};
-ghost use Rattle.kinds.specs.Sizes.{gained_flat};
-ghost use Rattle.kinds.specs.Bounds.{points_most, worth_most, worth_least};
+ghost use Rattle.kinds.specs.Lemmas.Shipped.{flat_paid, opposite_paid, bounded_paid, margined_needed};
+ghost use Rattle.kinds.specs.Lemmas.Sizes.{gained_flat};
+ghost use Rattle.kinds.specs.Lemmas.Bounds.{points_most, worth_most, worth_least};
 ghost use Rattle.std.proofs.lemmas.Nat.{mul-le};
 ghost use Rattle.std.proofs.Common.{rules};
 

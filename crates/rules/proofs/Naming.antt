@@ -5,8 +5,8 @@ use Rattle.std.proofs.lemmas.Int.{ints}
 use Rattle.std.proofs.lemmas.Bool.{cases_order, ltb-false}
 use Rattle.rules.specs.Closing.{tickets, worst_first, earliest_first}
 use Rattle.rules.specs.Named.{blank, at, WorstNamed, LowestNamed}
-use Rattle.rules.specs.Orders.{worst_is, earliest_is}
-use Rattle.rules.specs.Tickets.{length-tickets, ticket_at, rises}
+use Rattle.rules.specs.Lemmas.Orders.{worst_is, earliest_is}
+use Rattle.rules.specs.Lemmas.Tickets.{length-tickets, ticket_at, rises}
 
 not_less : (a b : ℤ) → lt_z a b ≡ false → b ≤ℤ a
 not_less a b h = grind (arith, ints)

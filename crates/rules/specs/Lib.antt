@@ -2,6 +2,4 @@ pub mod Closing
 pub mod Fill
 pub mod Least
 pub mod Named
-pub mod Orders
-pub mod Firsts
-pub mod Tickets
+pub mod Lemmas

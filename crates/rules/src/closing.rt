@@ -2,9 +2,9 @@
 ghost use Rattle.std.specs.Prelude.{◌≡◌, ◌<◌, ◌≤◌, length, take, nat_lt};
 ghost use Rattle.rules.specs.Closing.{Picks, Told, NamesOne, tickets, worst_first, earliest_first};
 ghost use Rattle.rules.specs.Least.{first_least};
-ghost use Rattle.rules.specs.Orders.{worst_is, earliest_is};
+ghost use Rattle.rules.specs.Lemmas.Orders.{worst_is, earliest_is};
 ghost use Rattle.std.proofs.Common.{arith};
-ghost use Rattle.rules.specs.Tickets.{length-tickets};
+ghost use Rattle.rules.specs.Lemmas.Tickets.{length-tickets};
 
 use crate::candidate::Candidate;
 use crate::least::first_least;

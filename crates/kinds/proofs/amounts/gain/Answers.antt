@@ -1,7 +1,7 @@
 use Rattle.std.proofs.Common.{◌≡◌, ℤ, pos, ◌-ℤ◌, ◌*ℤ◌, nat_abs, sym, ap, ◌∙◌, subst, arith, w64, SFits, to_z, of_z}
 use Rattle.std.proofs.lemmas.Int.{to_z-of_z, ints}
 use Rattle.kinds.specs.Amounts.{gained}
-use Rattle.kinds.specs.Sizes.{gain_fits, gain_most}
+use Rattle.kinds.specs.Lemmas.Sizes.{gain_fits, gain_most}
 use Rattle.kinds.proofs.amounts.gain.Goals as goal
 
 -- the product, as 64 bits have it

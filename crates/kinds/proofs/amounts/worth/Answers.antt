@@ -1,5 +1,5 @@
 use Rattle.std.proofs.Common.{arith, rules}
-use Rattle.kinds.specs.Bounds.{worth_most}
+use Rattle.kinds.specs.Lemmas.Bounds.{worth_most}
 use Rattle.kinds.proofs.amounts.worth.Goals as goal
 
 pub overflow_mul-result-2 : goal.overflow_mul-result-2

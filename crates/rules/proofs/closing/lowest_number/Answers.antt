@@ -1,7 +1,7 @@
 use Rattle.std.proofs.Common.{ltb}
 use Rattle.std.specs.Cmp.{nat_cmp_total}
-use Rattle.rules.specs.Firsts.{first_least_found}
-use Rattle.rules.specs.Orders.{less_number}
+use Rattle.rules.specs.Lemmas.Firsts.{first_least_found}
+use Rattle.rules.specs.Lemmas.Orders.{less_number}
 use Rattle.rules.proofs.closing.lowest_number.Goals as goal
 
 pub returns : goal.returns

@@ -1,5 +1,5 @@
-use Rattle.rules.specs.Firsts.{first_least_found}
-use Rattle.rules.specs.Orders.{by_result, less_result}
+use Rattle.rules.specs.Lemmas.Firsts.{first_least_found}
+use Rattle.rules.specs.Lemmas.Orders.{by_result, less_result}
 use Rattle.rules.proofs.closing.smallest_result.Goals as goal
 
 pub returns : goal.returns

@@ -2,7 +2,7 @@ use Rattle.std.proofs.Common.{◌≡◌, ℕ, ◌<◌, List, [], ◌∷◌, ◌+
 use Rattle.std.proofs.lemmas.List.{length-set, take_more, take_more_set, take_all}
 use Rattle.rules.specs.Closing.{tickets}
 use Rattle.rules.specs.Named.{blank}
-use Rattle.rules.specs.Tickets.{length-tickets, ticket_at}
+use Rattle.rules.specs.Lemmas.Tickets.{length-tickets, ticket_at}
 use Rattle.rules.proofs.closing.ticket_numbers.Goals as goal
 
 pub loop-i-preserved : goal.loop-i-preserved

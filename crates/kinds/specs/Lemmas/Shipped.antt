@@ -10,8 +10,8 @@ use Rattle.kinds.specs.Amounts.{by_side, rounded_up}
 use Rattle.kinds.specs.Laws.{Admits, Flat, Opposite, Bounded}
 use Rattle.kinds.specs.Payments.{Gains, paid, needed}
 use Rattle.kinds.specs.Ranges.{deal_ok, holding_ok}
-use Rattle.kinds.specs.Asked.{holding_true}
-use Rattle.kinds.specs.Sizes.{nat_abs-side, rounded_least, rounded_most}
+use Rattle.kinds.specs.Lemmas.Asked.{holding_true}
+use Rattle.kinds.specs.Lemmas.Sizes.{nat_abs-side, rounded_least, rounded_most}
 
 by_side_zero : (s : Side) (z : ℤ) → z ≡ pos 0 → by_side s z ≡ pos 0
 by_side_zero Buy z e = e

@@ -4,7 +4,7 @@ use Rattle.std.proofs.Common.{arith, mul_assoc, mul_comm, add-mul}
 use Rattle.std.proofs.lemmas.Nat.{mul-le, div_below}
 use Rattle.limits.specs.Bounds.{Price}
 use Rattle.kinds.specs.Amounts.{gained}
-use Rattle.kinds.specs.Sizes.{nat_abs-quot, gain_size}
+use Rattle.kinds.specs.Lemmas.Sizes.{nat_abs-quot, gain_size}
 
 -- at a size of 100 at most
 pub points_most : (o k v s : ℕ) → Price o → Price k → s ≤ 100 → unsigned_abs (gained o k (v * s)) ≤ v * 100000000

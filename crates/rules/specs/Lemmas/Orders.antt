@@ -8,8 +8,8 @@ use Rattle.std.specs.Ordering.{is_lt, int_cmp, nat_cmp, on}
 use Rattle.rules.specs.declared.candidate.Candidate.{Candidate}
 use Rattle.rules.specs.Closing.{Told, tickets, worst_first, earliest_first}
 use Rattle.rules.specs.Least.{FirstLeast}
-use Rattle.rules.specs.Firsts.{ranked, first_least_is}
-use Rattle.rules.specs.Tickets.{length-tickets}
+use Rattle.rules.specs.Lemmas.Firsts.{ranked, first_least_is}
+use Rattle.rules.specs.Lemmas.Tickets.{length-tickets}
 
 -- candidates are ordered by their results alone
 pub by_result : IsTotalOrder (on (λ (c : Candidate). c.result) int_cmp)
