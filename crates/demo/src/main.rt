@@ -1,40 +1,20 @@
-// One client's account on a moving market, printed as it is worked out.
+// One client's deal worked through on paper, printed as it is worked out.
 
 #![tactic(auto)]
 
-mod client;
-mod closing;
-mod fills;
-mod quotes;
+mod position;
+mod tables;
+mod worked;
 
-use client::client;
-use closing::ClosingTable;
-use fills::FillTable;
-use joined::unit::unit_kinds;
-use quotes::{QUOTES, listed_market};
-use statement::orders::OrderTable;
-use statement::statement::Statement;
 use std::io;
-use terms::quote::Prices;
-use valuation::account::open_positions;
+use tables::{FillTable, MarginTable, ResultTable, StopOutTable};
+use worked::LEVERAGE;
 
 fn main(rt: HostRuntime) -> io::Result<()> {
-    let account = client();
-    let mut market = listed_market();
-    println!(rt;
-        "One account: leverage {}, stop-out level {}, {} paid in; money in whole cents.",
-        account.leverage(),
-        account.stop_out(),
-        account.paid_in()
-    )?;
+    println!(rt; "One client's deal on paper: leverage {LEVERAGE}, money in whole cents.")?;
     println!(rt; "")?;
-    println!(rt; "{}", OrderTable { account })?;
-    for (instrument, bid, ask) in QUOTES {
-        market.set_prices(instrument, Prices { bid, ask });
-        println!(rt; "Quote of instrument {instrument}: {bid}/{ask}")?;
-        println!(rt; "{}", Statement { account, market })?;
-    }
-    let positions = open_positions(&unit_kinds(), &market, &account);
-    println!(rt; "{}", ClosingTable { positions })?;
-    print!(rt; "{}", FillTable)
+    println!(rt; "{}", MarginTable)?;
+    println!(rt; "{}", FillTable)?;
+    println!(rt; "{}", ResultTable)?;
+    print!(rt; "{}", StopOutTable)
 }

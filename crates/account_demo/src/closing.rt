@@ -3,7 +3,7 @@ ghost use Rattle.std.specs.Prelude.{◌≡◌};
 ghost use Rattle.positions.specs.Held.{held};
 ghost use Rattle.rules.specs.Closing.{Told};
 ghost use Rattle.rules.specs.Named.{at};
-ghost use Rattle.demo.specs.Named.{ticket_named};
+ghost use Rattle.account_demo.specs.Named.{ticket_named};
 
 use positions::positions::Positions;
 use rules::candidate::Candidate;

@@ -1,7 +1,7 @@
 // One client's account: positions and orders on three instruments.
 ghost use Rattle.std.specs.Prelude.{◌≡◌};
 ghost use Rattle.account.specs.Accounts.{model};
-ghost use Rattle.demo.specs.Client.{newcomer, client};
+ghost use Rattle.account_demo.specs.Client.{newcomer, client};
 
 use account::account::Account;
 use terms::order::OrderType;

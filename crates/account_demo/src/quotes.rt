@@ -1,6 +1,6 @@
 // The market of the print-out: three instruments, one of each of the unit's kinds, and their quotes in order.
 ghost use Rattle.std.specs.Prelude.{◌≡◌};
-ghost use Rattle.demo.specs.Client.{client_market};
+ghost use Rattle.account_demo.specs.Client.{client_market};
 
 use market::listing::Listing;
 use market::market::Market;
