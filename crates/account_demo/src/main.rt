@@ -16,7 +16,7 @@ use statement::orders::OrderTable;
 use statement::statement::Statement;
 use std::io;
 use terms::quote::Prices;
-use valuation::account::open_positions;
+use valuation::worth::open_positions;
 
 fn main(rt: HostRuntime) -> io::Result<()> {
     let account = client();

@@ -15,7 +15,7 @@ use terms::protection::NO_PROTECTION;
 use terms::quote::Prices;
 use terms::side::Side;
 use tickets::ticket::TicketState;
-use valuation::account::{equity, margin, open_positions};
+use valuation::worth::{equity, margin, open_positions};
 
 // A market on which instrument 1 is a direct one of size 10 and hedge share 50.
 fn quoted(bid: u32, ask: u32) -> Market

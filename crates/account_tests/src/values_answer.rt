@@ -8,7 +8,7 @@ use terms::protection::NO_PROTECTION;
 use terms::quote::Prices;
 use terms::side::Side;
 use tickets::ticket::TicketState;
-use valuation::account::{equity, free_margin, heaviest, margin};
+use valuation::worth::{equity, free_margin, heaviest, margin};
 
 // Hedge share of instrument 1, its bid and ask; then equity, margin and free margin of a buy of 3 at 1,001 and a sell of 1
 // at 1,003, of size 1 and leverage 7, with 100 paid in: margins 429 and 144.

@@ -5,8 +5,8 @@ use market::market::Market;
 use std::fmt;
 use terms::side::Side;
 use tickets::ticket::TicketState;
-use valuation::account::{equity, free_margin, margin};
 use valuation::position::valued;
+use valuation::worth::{equity, free_margin, margin};
 
 #[derive(Clone, Copy)]
 pub struct Statement {

@@ -2,7 +2,7 @@
 
 #![tactic(auto)]
 
-pub mod account;
 mod gather;
 pub mod position;
 mod sums;
+pub mod worth;
