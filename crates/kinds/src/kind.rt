@@ -25,6 +25,7 @@ pub trait ContractKind {
     fn margin(&self, contract: Contract, leverage: u32, opened: u32, volume: u32) -> u64
         ensures { result ≡ needs self.now contract leverage opened volume };
 
+    // The laws that each kind owes. A ghost member is a law because it stands below the last method.
     ghost confined: { (k : Self) → Confined (admits k) };
 
     ghost flat: { (k : Self) → Flat (admits k) (pays k) };

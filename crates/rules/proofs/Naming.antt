@@ -1,6 +1,5 @@
 -- What the shipped closing rules name.
-use Rattle.std.proofs.Common.{◌≡◌, ℕ, true, false, get_or, ℤ, ◌≤ℤ◌, ap, inl, inr, arith}
-use lib.Signed.{lt_z}
+use Rattle.std.proofs.Common.{◌≡◌, ℕ, true, false, get_or, ℤ, ◌≤ℤ◌, int_lt, ap, inl, inr, arith}
 use Rattle.std.proofs.lemmas.Int.{ints}
 use Rattle.std.proofs.lemmas.Bool.{cases_order, ltb-false}
 use Rattle.rules.specs.Closing.{tickets, worst_first, earliest_first}
@@ -8,10 +7,10 @@ use Rattle.rules.specs.Named.{blank, at, WorstNamed, LowestNamed}
 use Rattle.rules.specs.Lemmas.Orders.{worst_is, earliest_is}
 use Rattle.rules.specs.Lemmas.Tickets.{length-tickets, ticket_at, rises}
 
-not_less : (a b : ℤ) → lt_z a b ≡ false → b ≤ℤ a
+not_less : (a b : ℤ) → int_lt a b ≡ false → b ≤ℤ a
 not_less a b h = grind (arith, ints)
 
-less_apart : (a b : ℤ) → lt_z a b ≡ true → b ≡ a → ⊥
+less_apart : (a b : ℤ) → int_lt a b ≡ true → b ≡ a → ⊥
 less_apart a b h e = grind (arith, ints)
 
 pub worst_named : WorstNamed

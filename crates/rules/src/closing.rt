@@ -18,6 +18,7 @@ pub trait ClosingRule {
         requires { Told candidates.now }
         ensures { result ≡ picks self.now candidates.now };
 
+    // The law that each rule owes: it stands below the last method, which makes it one.
     ghost within: { (c : Self) → NamesOne (picks c) };
 }
 

@@ -13,6 +13,7 @@ pub trait FillRule {
     fn dealt(&self, works: WorksAs, level: u32, market: u32, gap: bool) -> u32
         ensures { result ≡ deals self.now works level market gap };
 
+    // The law that each rule owes: it stands below the last method, which makes it one.
     ghost either: { (f : Self) → LevelOrMarket (deals f) };
 }
 

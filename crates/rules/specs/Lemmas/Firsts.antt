@@ -1,4 +1,4 @@
--- `first-least` is the first least place, and there is only one.
+-- `first_least` is the first least place, and there is only one.
 use Rattle.std.specs.Prelude.{◌≡◌, ℕ, zero, suc, ◌<◌, Bool, true, false, List, [], ◌∷◌, length, slice_index_or, refl}
 use Rattle.std.specs.declared.cmp.Ordering.{Ordering}
 use Rattle.std.proofs.Common.{sym, ◌∙◌, ⊎_elim, arith}
