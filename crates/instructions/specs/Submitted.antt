@@ -1,5 +1,7 @@
 -- A submitted instruction, and the check of its numbers.
-use Rattle.std.specs.Prelude.{◌≡◌, ℕ, Bool, true, cond, ◌&&◌, Some, None, Option, ◌==◌, nat_lt}
+use Rattle.std.specs.Prelude.{◌≡◌, ℕ, Bool, true, cond, ◌&&◌, Some, None, Ok, Err, Option, Result, ◌==◌, nat_lt}
+use Rattle.terms.specs.declared.refusal.Refusal.{Refusal}
+use Rattle.terms.specs.declared.refusal.Refusal.TheVariants.{OutsideLimits}
 use Rattle.terms.specs.declared.protection.Protection.{Protection}
 use Rattle.instructions.specs.declared.instruction.Opening.{Opening}
 use Rattle.instructions.specs.declared.instruction.Closing.{Closing}
@@ -18,13 +20,17 @@ use Rattle.terms.specs.Protections.{optionally}
 use Rattle.instructions.specs.Inside.{inside}
 
 -- the value, if it passes
-abbrev pub checked : {X : Type 0} → (X → Bool) → X → Option X
-checked ok x = cond (ok x) (Some x) None
+abbrev pub checked : {X : Type 0} → (X → Bool) → X → Result X Refusal
+checked ok x = cond (ok x) (Ok x) (Err OutsideLimits)
 
 -- what there is passes
-abbrev pub Passing : {X : Type 0} → (X → Bool) → Option X → Type 0
-Passing ok None = Unit {0}
-Passing ok (Some x) = ok x ≡ true
+abbrev pub Passing : {X : Type 0} → (X → Bool) → Result X Refusal → Type 0
+Passing ok (Ok x) = ok x ≡ true
+Passing ok (Err e) = Unit {0}
+
+-- the value, if it passes, and what there is passes
+abbrev pub Checks : {X : Type 0} → (X → Bool) → X → Result X Refusal → Type 0
+Checks ok x r = (r ≡ checked ok x) × Passing ok r
 
 -- 0 stands for none
 abbrev pub optional : ℕ → Option ℕ
@@ -34,16 +40,16 @@ abbrev pub protection_of : ℕ → ℕ → Protection
 protection_of sl tp = record { stop_loss = optional sl; take_profit = optional tp }
 
 abbrev pub opening_of : SubmittedOpening → Opening
-opening_of g = record { instrument = g.instrument; side = g.side; volume = g.volume; price = g.price; deviation = g.deviation; protection = protection_of g.stop_loss g.take_profit }
+opening_of g = record { instrument = g.instrument; side = g.side; volume = g.volume; price = g.price; deviation = g.deviation; protection = protection_of g.protection.stop_loss g.protection.take_profit }
 
 abbrev pub closing_of : SubmittedClosing → Closing
 closing_of g = record { ticket = g.ticket; volume = g.volume }
 
 abbrev pub placement_of : SubmittedPlacement → Placement
-placement_of g = record { instrument = g.instrument; order = g.order; volume = g.volume; level = g.level; protection = protection_of g.stop_loss g.take_profit; expiry = optional g.expiry }
+placement_of g = record { instrument = g.instrument; order = g.order; volume = g.volume; level = g.level; protection = protection_of g.protection.stop_loss g.protection.take_profit; expiry = optional g.expiry }
 
 abbrev pub modification_of : SubmittedModification → Modification
-modification_of g = record { ticket = g.ticket; level = optional g.level; protection = protection_of g.stop_loss g.take_profit }
+modification_of g = record { ticket = g.ticket; level = optional g.level; protection = protection_of g.protection.stop_loss g.protection.take_profit }
 
 -- the instruction of the same numbers
 abbrev pub as_numbers : Submission → Instruction

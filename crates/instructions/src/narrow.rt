@@ -1,149 +1,153 @@
-// The check of a submitted instruction's numbers, one function for each instruction.
-ghost use Rattle.std.specs.Prelude.{◌≡◌, ◌^◌, ◌<◌, ◌&&◌, nat_lt};
-ghost use Rattle.limits.specs.Bounds.{price_ok, ticket_ok, time_ok};
+// The check of a submitted instruction's numbers, which gives them in narrower types.
+ghost use Rattle.std.specs.Prelude.{◌≡◌, ℕ, ◌^◌, ◌<◌, true, ◌&&◌, nat_lt};
+ghost use Rattle.limits.specs.Quantities.{admits};
+ghost use Rattle.limits.specs.Bounds.{instrument_ok, ticket_ok, time_ok};
 ghost use Rattle.terms.specs.Protections.{optionally, protection_ok};
 ghost use Rattle.instructions.specs.Inside.{inside, opening_ok, closing_ok, placement_ok, modification_ok};
-ghost use Rattle.instructions.specs.Submitted.{checked, passes, Passing, as_numbers, optional, protection_of, opening_of, closing_of, placement_of, modification_of};
+ghost use Rattle.instructions.specs.Submitted.{checked, passes, Checks, Passing, as_numbers, optional, protection_of, opening_of, closing_of, placement_of, modification_of};
 
 use crate::instruction::{Closing, Instruction, Modification, Opening, Placement};
 use crate::submission::{
     Submission, SubmittedClosing, SubmittedModification, SubmittedOpening, SubmittedPlacement,
+    SubmittedProtection,
 };
-use limits::{is_distance, is_instrument, is_price, is_ticket, is_time, is_volume};
+use limits::Quantity;
 use terms::protection::Protection;
+use terms::refusal::Refusal;
 
-// No level, or one inside the limits.
-fn is_optional_price(n: u64) -> bool
-    ensures { result ≡ optionally price_ok (optional n) }
+// The number, unless it is outside the limits of its quantity. The cast is proved to keep it: `try_from` and `unwrap` would be longer and say no more.
+fn inside(quantity: Quantity, n: u64) -> Result<u32, Refusal>
+    requires { (m : ℕ) → admits quantity m ≡ true → m < 2 ^ 32 }
+    ensures { Checks (admits quantity) n result }
 {
-    n == 0 || is_price(n)
-}
-
-fn some_unless_zero(n: u64) -> Option<u32>
-    requires { n < 2 ^ 32 }
-    ensures { result ≡ optional n }
-{
-    if n == 0 { None } else { Some(n as u32) }
-}
-
-fn protection(stop_loss: u64, take_profit: u64) -> Option<Protection>
-    ensures value { result ≡ checked protection_ok (protection_of stop_loss take_profit) }
-    ensures within { Passing protection_ok result }
-{
-    if is_optional_price(stop_loss) && is_optional_price(take_profit) {
-        Some(Protection {
-            stop_loss: some_unless_zero(stop_loss),
-            take_profit: some_unless_zero(take_profit),
-        })
+    if quantity.admits(n) {
+        Ok(n as u32)
     } else {
-        None
+        Err(Refusal::OutsideLimits)
     }
 }
 
-fn opening(given: SubmittedOpening) -> Option<Opening>
-    ensures value { result ≡ checked opening_ok (opening_of given) }
-    ensures within { Passing opening_ok result }
+// Narrower by a cast that is proved to keep the number, as in the next.
+fn instrument(n: u64) -> Result<u8, Refusal>
+    ensures { Checks instrument_ok n result }
 {
-    let protection = protection(given.stop_loss, given.take_profit)?;
-    if is_instrument(given.instrument)
-        && is_volume(given.volume)
-        && is_price(given.price)
-        && is_distance(given.deviation)
-    {
-        Some(Opening {
-            instrument: given.instrument as u8,
-            side: given.side,
-            volume: given.volume as u32,
-            price: given.price as u32,
-            deviation: given.deviation as u32,
-            protection,
-        })
-    } else {
-        None
-    }
+    Ok(inside(Quantity::Instrument, n)? as u8)
 }
 
-fn closing(given: SubmittedClosing) -> Option<Closing>
-    ensures value { result ≡ checked closing_ok (closing_of given) }
-    ensures within { Passing closing_ok result }
+fn ticket(n: u64) -> Result<u16, Refusal>
+    ensures { Checks ticket_ok n result }
 {
-    if is_ticket(given.ticket) && is_volume(given.volume) {
-        Some(Closing {
-            ticket: given.ticket as u16,
-            volume: given.volume as u32,
-        })
-    } else {
-        None
+    Ok(inside(Quantity::Ticket, n)? as u16)
+}
+
+// A number as `inside` has it, where 0 stands for none.
+fn optional(quantity: Quantity, n: u64) -> Result<Option<u32>, Refusal>
+    requires { (m : ℕ) → admits quantity m ≡ true → m < 2 ^ 32 }
+    ensures { Checks (optionally (admits quantity)) (optional n) result }
+{
+    match n {
+        0 => Ok(None),
+        _ => Ok(Some(inside(quantity, n)?)),
     }
 }
 
 // No expiry, or one that lies after the present time.
-fn is_optional_expiry(n: u64, time: u32) -> bool
-    ensures { result ≡ (optionally time_ok (optional n) && optionally (nat_lt time) (optional n)) }
+fn optional_expiry(n: u64, time: u32) -> Result<Option<u32>, Refusal>
+    ensures value { result ≡ checked (λ t. optionally time_ok t && optionally (nat_lt time) t) (optional n) }
+    ensures within { Passing (optionally time_ok) result }
 {
-    n == 0 || is_time(n) && (time as u64) < n
+    match optional(Quantity::Time, n)? {
+        Some(expiry) if expiry <= time => Err(Refusal::OutsideLimits),
+        expiry => Ok(expiry),
+    }
 }
 
-fn placement(given: SubmittedPlacement, time: u32) -> Option<Placement>
+impl TryFrom<SubmittedProtection> for Protection {
+    type Error = Refusal;
+
+    ghost try_from_gives = { λ given made. Checks protection_ok (protection_of given.stop_loss given.take_profit) made };
+
+    fn try_from(given: SubmittedProtection) -> Result<Protection, Refusal> {
+        Ok(Protection {
+            stop_loss: optional(Quantity::Price, given.stop_loss)?,
+            take_profit: optional(Quantity::Price, given.take_profit)?,
+        })
+    }
+}
+
+impl TryFrom<SubmittedOpening> for Opening {
+    type Error = Refusal;
+
+    ghost try_from_gives = { λ given made. Checks opening_ok (opening_of given) made };
+
+    fn try_from(given: SubmittedOpening) -> Result<Opening, Refusal> {
+        Ok(Opening {
+            instrument: instrument(given.instrument)?,
+            side: given.side,
+            volume: inside(Quantity::Volume, given.volume)?,
+            price: inside(Quantity::Price, given.price)?,
+            deviation: inside(Quantity::Distance, given.deviation)?,
+            protection: given.protection.try_into()?,
+        })
+    }
+}
+
+impl TryFrom<SubmittedClosing> for Closing {
+    type Error = Refusal;
+
+    ghost try_from_gives = { λ given made. Checks closing_ok (closing_of given) made };
+
+    fn try_from(given: SubmittedClosing) -> Result<Closing, Refusal> {
+        let SubmittedClosing {
+            ticket: number,
+            volume,
+        } = given;
+        Ok(Closing {
+            ticket: ticket(number)?,
+            volume: inside(Quantity::Volume, volume)?,
+        })
+    }
+}
+
+// The expiry is compared with the present time, so this is no conversion of the submitted numbers alone.
+fn placement(given: SubmittedPlacement, time: u32) -> Result<Placement, Refusal>
     ensures value { result ≡ checked (λ p. placement_ok p && optionally (nat_lt time) p.expiry) (placement_of given) }
     ensures within { Passing placement_ok result }
 {
-    let protection = protection(given.stop_loss, given.take_profit)?;
-    if is_instrument(given.instrument)
-        && is_volume(given.volume)
-        && is_price(given.level)
-        && is_optional_expiry(given.expiry, time)
-    {
-        Some(Placement {
-            instrument: given.instrument as u8,
-            order: given.order,
-            volume: given.volume as u32,
-            level: given.level as u32,
-            protection,
-            expiry: some_unless_zero(given.expiry),
+    Ok(Placement {
+        instrument: instrument(given.instrument)?,
+        order: given.order,
+        volume: inside(Quantity::Volume, given.volume)?,
+        level: inside(Quantity::Price, given.level)?,
+        protection: given.protection.try_into()?,
+        expiry: optional_expiry(given.expiry, time)?,
+    })
+}
+
+impl TryFrom<SubmittedModification> for Modification {
+    type Error = Refusal;
+
+    ghost try_from_gives = { λ given made. Checks modification_ok (modification_of given) made };
+
+    fn try_from(given: SubmittedModification) -> Result<Modification, Refusal> {
+        Ok(Modification {
+            ticket: ticket(given.ticket)?,
+            level: optional(Quantity::Price, given.level)?,
+            protection: given.protection.try_into()?,
         })
-    } else {
-        None
     }
 }
 
-fn modification(given: SubmittedModification) -> Option<Modification>
-    ensures value { result ≡ checked modification_ok (modification_of given) }
-    ensures within { Passing modification_ok result }
-{
-    let protection = protection(given.stop_loss, given.take_profit)?;
-    if is_ticket(given.ticket) && is_optional_price(given.level) {
-        Some(Modification {
-            ticket: given.ticket as u16,
-            level: some_unless_zero(given.level),
-            protection,
-        })
-    } else {
-        None
-    }
-}
-
-fn deletion(ticket: u64) -> Option<u16>
-    ensures value { result ≡ checked ticket_ok ticket }
-    ensures within { Passing ticket_ok result }
-{
-    if is_ticket(ticket) {
-        Some(ticket as u16)
-    } else {
-        None
-    }
-}
-
-// The same numbers in narrower types, where all are inside their limits.
-pub fn narrowed(submission: Submission, time: u32) -> Option<Instruction>
+// The same numbers in narrower types, where all are inside their limits; no `TryFrom`, since the present time is asked beside them.
+pub fn narrowed(submission: Submission, time: u32) -> Result<Instruction, Refusal>
     ensures value { result ≡ checked (passes time) (as_numbers submission) }
     ensures within { Passing inside result }
 {
-    match submission {
-        Submission::Open(given) => Some(Instruction::Open(opening(given)?)),
-        Submission::Close(given) => Some(Instruction::Close(closing(given)?)),
-        Submission::Place(given) => Some(Instruction::Place(placement(given, time)?)),
-        Submission::Modify(given) => Some(Instruction::Modify(modification(given)?)),
-        Submission::Delete(ticket) => Some(Instruction::Delete(deletion(ticket)?)),
-    }
+    Ok(match submission {
+        Submission::Open(given) => Instruction::Open(given.try_into()?),
+        Submission::Close(given) => Instruction::Close(given.try_into()?),
+        Submission::Place(given) => Instruction::Place(placement(given, time)?),
+        Submission::Modify(given) => Instruction::Modify(given.try_into()?),
+        Submission::Delete(number) => Instruction::Delete(ticket(number)?),
+    })
 }

@@ -3,14 +3,19 @@ use terms::order::OrderType;
 use terms::side::Side;
 
 #[derive(Clone, Copy)]
+pub struct SubmittedProtection {
+    pub stop_loss: u64,
+    pub take_profit: u64,
+}
+
+#[derive(Clone, Copy)]
 pub struct SubmittedOpening {
     pub instrument: u64,
     pub side: Side,
     pub volume: u64,
     pub price: u64,
     pub deviation: u64,
-    pub stop_loss: u64,
-    pub take_profit: u64,
+    pub protection: SubmittedProtection,
 }
 
 #[derive(Clone, Copy)]
@@ -25,8 +30,7 @@ pub struct SubmittedPlacement {
     pub order: OrderType,
     pub volume: u64,
     pub level: u64,
-    pub stop_loss: u64,
-    pub take_profit: u64,
+    pub protection: SubmittedProtection,
     pub expiry: u64,
 }
 
@@ -34,8 +38,7 @@ pub struct SubmittedPlacement {
 pub struct SubmittedModification {
     pub ticket: u64,
     pub level: u64,
-    pub stop_loss: u64,
-    pub take_profit: u64,
+    pub protection: SubmittedProtection,
 }
 
 #[derive(Clone, Copy)]

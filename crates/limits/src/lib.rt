@@ -1,9 +1,10 @@
-// The limits of the numbers that calls bring, as constants and as tests.
+// The limits of the numbers that calls bring: for each quantity a range, and a test.
 
 #![tactic(auto)]
 
 ghost use Rattle.std.specs.Prelude.{◌≡◌};
-ghost use Rattle.limits.specs.Bounds.{account_ok, instrument_ok, price_ok, volume_ok, leverage_ok, percentage_ok, distance_ok, rate_ok, payment_ok, paid_in_ok, time_ok, day_ok, ticket_ok, kind_ok, size_ok};
+ghost use Rattle.limits.specs.Bounds.{rate_ok};
+ghost use Rattle.limits.specs.Quantities.{admits};
 
 pub const ACCOUNTS: u64 = 8;
 
@@ -39,99 +40,57 @@ pub const MAX_KIND: u64 = 255;
 
 pub const MAX_SIZE: u64 = 1_000_000;
 
-pub fn is_account(n: u64) -> bool
-    ensures { result ≡ account_ok n }
-{
-    1 <= n && n <= ACCOUNTS
+// What a number that a call brings may stand for.
+#[derive(Clone, Copy)]
+pub enum Quantity {
+    Account,
+    Instrument,
+    // A price or a level.
+    Price,
+    Volume,
+    Leverage,
+    // A stop-out level, a hedge share or a contract's percentage.
+    Percentage,
+    // A near distance or a deviation.
+    Distance,
+    // One payment.
+    Payment,
+    // All accepted payments into one account.
+    PaidIn,
+    Time,
+    Day,
+    Ticket,
+    // The number of a contract kind.
+    Kind,
+    Size,
 }
 
-pub fn is_instrument(n: u64) -> bool
-    ensures { result ≡ instrument_ok n }
-{
-    1 <= n && n <= INSTRUMENTS
+impl Quantity {
+    pub fn admits(self, n: u64) -> bool
+        ensures { result ≡ admits self n }
+    {
+        match self {
+            Quantity::Account => (1..=ACCOUNTS).contains(&n),
+            Quantity::Instrument => (1..=INSTRUMENTS).contains(&n),
+            Quantity::Price => (MIN_PRICE..=MAX_PRICE).contains(&n),
+            Quantity::Volume => (1..=MAX_VOLUME).contains(&n),
+            Quantity::Leverage => (1..=MAX_LEVERAGE).contains(&n),
+            Quantity::Percentage => (0..=MAX_PERCENTAGE).contains(&n),
+            Quantity::Distance => (0..=MAX_DISTANCE).contains(&n),
+            Quantity::Payment => (1..=MAX_PAYMENT).contains(&n),
+            Quantity::PaidIn => (0..=MAX_PAID_IN).contains(&n),
+            Quantity::Time => (0..=MAX_TIME).contains(&n),
+            Quantity::Day => (1..=MAX_DAY).contains(&n),
+            Quantity::Ticket => (1..=MAX_TICKET).contains(&n),
+            Quantity::Kind => (0..=MAX_KIND).contains(&n),
+            Quantity::Size => (0..=MAX_SIZE).contains(&n),
+        }
+    }
 }
 
-// A price or a level.
-pub fn is_price(n: u64) -> bool
-    ensures { result ≡ price_ok n }
-{
-    MIN_PRICE <= n && n <= MAX_PRICE
-}
-
-pub fn is_volume(n: u64) -> bool
-    ensures { result ≡ volume_ok n }
-{
-    1 <= n && n <= MAX_VOLUME
-}
-
-pub fn is_leverage(n: u64) -> bool
-    ensures { result ≡ leverage_ok n }
-{
-    1 <= n && n <= MAX_LEVERAGE
-}
-
-// A stop-out level, a hedge share or a contract's percentage.
-pub fn is_percentage(n: u64) -> bool
-    ensures { result ≡ percentage_ok n }
-{
-    n <= MAX_PERCENTAGE
-}
-
-// A near distance or a deviation.
-pub fn is_distance(n: u64) -> bool
-    ensures { result ≡ distance_ok n }
-{
-    n <= MAX_DISTANCE
-}
-
-// A swap rate.
+// A swap rate is the one signed quantity.
 pub fn is_rate(z: i64) -> bool
     ensures { result ≡ rate_ok z }
 {
-    -MAX_RATE <= z && z <= MAX_RATE
-}
-
-// One payment.
-pub fn is_payment(n: u64) -> bool
-    ensures { result ≡ payment_ok n }
-{
-    1 <= n && n <= MAX_PAYMENT
-}
-
-// All accepted payments into one account.
-pub fn is_paid_in(n: u64) -> bool
-    ensures { result ≡ paid_in_ok n }
-{
-    n <= MAX_PAID_IN
-}
-
-pub fn is_time(n: u64) -> bool
-    ensures { result ≡ time_ok n }
-{
-    n <= MAX_TIME
-}
-
-pub fn is_day(n: u64) -> bool
-    ensures { result ≡ day_ok n }
-{
-    1 <= n && n <= MAX_DAY
-}
-
-pub fn is_ticket(n: u64) -> bool
-    ensures { result ≡ ticket_ok n }
-{
-    1 <= n && n <= MAX_TICKET
-}
-
-// The number of a contract kind.
-pub fn is_kind(n: u64) -> bool
-    ensures { result ≡ kind_ok n }
-{
-    n <= MAX_KIND
-}
-
-pub fn is_size(n: u64) -> bool
-    ensures { result ≡ size_ok n }
-{
-    n <= MAX_SIZE
+    (-MAX_RATE..=MAX_RATE).contains(&z)
 }

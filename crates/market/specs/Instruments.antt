@@ -25,12 +25,23 @@ hedge_share row = hedge_of row.listing
 abbrev pub unlisted : Instrument
 unlisted = record { listing = None; prices = None }
 
--- the row of an instrument: the first is instrument 1's
+-- the first row is instrument 1's
+abbrev pub place : ℕ → Option ℕ
+place zero = None
+place (suc k) = Some k
+
+abbrev pub row_at : Option ℕ → List Instrument → Instrument
+row_at None rows = unlisted
+row_at (Some k) rows = slice_index_or rows k unlisted
+
+-- the row of an instrument
 abbrev pub numbered : ℕ → List Instrument → Instrument
-numbered zero rows = unlisted
-numbered (suc k) rows = slice_index_or rows k unlisted
+numbered n rows = row_at (place n) rows
+
+abbrev pub row_put : Option ℕ → Instrument → List Instrument → List Instrument
+row_put None row rows = rows
+row_put (Some k) row rows = slice_set rows k row
 
 -- another row for an instrument
 abbrev pub with_row : ℕ → Instrument → List Instrument → List Instrument
-with_row zero row rows = rows
-with_row (suc k) row rows = slice_set rows k row
+with_row n row rows = row_put (place n) row rows

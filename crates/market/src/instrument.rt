@@ -19,19 +19,13 @@ impl Instrument {
     pub fn quote(self) -> Option<Quote>
         ensures { option_map prices_of result ≡ present self }
     {
-        match self.prices {
-            Some(prices) => Quote::from_prices(prices),
-            None => None,
-        }
+        self.prices.and_then(|prices| Quote::try_from(prices).ok())
     }
 
     // The hedge share in percent, and 0 where nothing is listed.
     pub fn hedge_share(self) -> u8
         ensures { result ≡ hedge_share self }
     {
-        match self.listing {
-            Some(listing) => listing.hedge,
-            None => 0,
-        }
+        self.listing.map_or(0, |listing| listing.hedge)
     }
 }

@@ -1,7 +1,8 @@
 // The instrument table, the present time and the last day.
 ghost use Rattle.std.specs.Prelude.{◌≡◌};
-ghost use Rattle.market.specs.Instruments.{numbered, with_row};
-ghost use Rattle.market.specs.Markets.{no_market, instrument, listed, priced};
+ghost use Rattle.market.specs.declared.instrument.Instrument.{Instrument};
+ghost use Rattle.market.specs.Instruments.{place};
+ghost use Rattle.market.specs.Markets.{no_market, instrument, with_instrument, listed, priced};
 
 use crate::instrument::Instrument;
 use crate::listing::Listing;
@@ -36,49 +37,54 @@ impl Market {
     pub fn instrument(&self, number: u8) -> Instrument
         ensures { result ≡ instrument number self.now }
     {
-        row_of(&self.instruments, number)
+        place_of(number)
+            .and_then(|place| self.instruments.get(place))
+            .copied()
+            .unwrap_or(UNLISTED)
     }
 
     // Lists an instrument.
     pub fn list(&mut self, number: u8, listing: Listing)
         ensures { self.new ≡ listed number listing self.old }
     {
-        let row = Instrument {
-            listing: Some(listing),
-            ..self.instrument(number)
-        };
-        put_row(&mut self.instruments, number, row);
+        self.change(
+            number,
+            |row| Instrument {
+                listing: Some(listing),
+                ..row
+            },
+        );
     }
 
     // Makes prices the present ones of an instrument.
     pub fn set_prices(&mut self, number: u8, prices: Prices)
         ensures { self.new ≡ priced number prices self.old }
     {
-        let row = Instrument {
-            prices: Some(prices),
-            ..self.instrument(number)
-        };
-        put_row(&mut self.instruments, number, row);
+        self.change(
+            number,
+            |row| Instrument {
+                prices: Some(prices),
+                ..row
+            },
+        );
+    }
+
+    // Changes the row of an instrument; a number that no instrument has changes nothing.
+    fn change<F: FnOnce(Instrument) -> Instrument>(&mut self, number: u8, change: F)
+        requires { F.pre change (instrument number self.old) }
+        ensures { (row : Instrument) × F.post change (instrument number self.old) row × (self.new ≡ with_instrument number row self.old) }
+    {
+        let row = change(self.instrument(number));
+        match place_of(number) {
+            Some(place) if place < self.instruments.len() => self.instruments[place] = row,
+            Some(_) | None => {}
+        }
     }
 }
 
-fn row_of(rows: &[Instrument], number: u8) -> Instrument
-    ensures { result ≡ numbered number rows.now }
+// The first row is instrument 1's.
+fn place_of(number: u8) -> Option<usize>
+    ensures { result ≡ place number }
 {
-    let number = number as usize;
-    if number == 0 || rows.len() < number {
-        UNLISTED
-    } else {
-        rows[number - 1]
-    }
-}
-
-fn put_row(rows: &mut [Instrument], number: u8, row: Instrument)
-    ensures { rows.new ≡ with_row number row rows.old }
-{
-    let number = number as usize;
-    if number == 0 || rows.len() < number {
-        return;
-    }
-    rows[number - 1] = row;
+    usize::from(number).checked_sub(1)
 }

@@ -1,31 +1,37 @@
 // Who gave an instruction.
 ghost use Rattle.std.specs.Prelude.{◌≡◌};
+ghost use Rattle.std.specs.Option.{ok_or};
+ghost use Rattle.terms.specs.declared.refusal.Refusal.TheVariants.{OutsideLimits};
 ghost use Rattle.terms.specs.Givers.{giver_of, giver_number};
+
+use crate::refusal::Refusal;
 
 #[derive(Clone, Copy)]
 pub enum Giver {
-    Client,
-    Advisor,
+    Client = 0,
+    Advisor = 1,
 }
 
-impl Giver {
-    // The giver of a number, where there is one.
-    pub fn from_number(number: u64) -> Option<Giver>
-        ensures { result ≡ giver_of number }
-    {
+// The giver of a number, where there is one.
+impl TryFrom<u64> for Giver {
+    type Error = Refusal;
+
+    ghost try_from_gives = { λ number given. given ≡ ok_or (giver_of number) OutsideLimits };
+
+    fn try_from(number: u64) -> Result<Giver, Refusal> {
         match number {
-            0 => Some(Giver::Client),
-            1 => Some(Giver::Advisor),
-            _ => None,
+            0 => Ok(Giver::Client),
+            1 => Ok(Giver::Advisor),
+            _ => Err(Refusal::OutsideLimits),
         }
     }
+}
 
-    pub fn number(self) -> u64
-        ensures { result ≡ giver_number self }
-    {
-        match self {
-            Giver::Client => 0,
-            Giver::Advisor => 1,
-        }
+// By itself, as that of a refusal: none can be written over all enums that have numbers, nor by a macro.
+impl From<Giver> for u64 {
+    ghost from_gives = { λ giver number. number ≡ giver_number giver };
+
+    fn from(giver: Giver) -> u64 {
+        giver as u64
     }
 }

@@ -5,6 +5,7 @@ ghost use Rattle.terms.specs.Levels.{works_as, low, at_bid, market_price};
 use crate::order::OrderType;
 use crate::quote::Prices;
 use crate::side::Side;
+use std::fmt;
 
 // The side of a stop loss or a take profit is that of its position.
 #[derive(Clone, Copy)]
@@ -26,10 +27,8 @@ impl LevelKind {
         ensures { result ≡ works_as self }
     {
         match self {
-            LevelKind::Entry(OrderType::BuyLimit) => WorksAs::Limit,
-            LevelKind::Entry(OrderType::BuyStop) => WorksAs::Stop,
-            LevelKind::Entry(OrderType::SellLimit) => WorksAs::Limit,
-            LevelKind::Entry(OrderType::SellStop) => WorksAs::Stop,
+            LevelKind::Entry(OrderType::BuyStop | OrderType::SellStop) => WorksAs::Stop,
+            LevelKind::Entry(OrderType::BuyLimit | OrderType::SellLimit) => WorksAs::Limit,
             LevelKind::StopLoss(_) => WorksAs::Stop,
             LevelKind::TakeProfit(_) => WorksAs::Limit,
         }
@@ -39,32 +38,24 @@ impl LevelKind {
     pub fn is_low(self) -> bool
         ensures { result ≡ low self }
     {
-        match self {
-            LevelKind::Entry(OrderType::BuyLimit) => true,
-            LevelKind::Entry(OrderType::BuyStop) => false,
-            LevelKind::Entry(OrderType::SellLimit) => false,
-            LevelKind::Entry(OrderType::SellStop) => true,
-            LevelKind::StopLoss(Side::Buy) => true,
-            LevelKind::StopLoss(Side::Sell) => false,
-            LevelKind::TakeProfit(Side::Buy) => false,
-            LevelKind::TakeProfit(Side::Sell) => true,
-        }
+        matches!(
+            self,
+            LevelKind::Entry(OrderType::BuyLimit | OrderType::SellStop)
+                | LevelKind::StopLoss(Side::Buy)
+                | LevelKind::TakeProfit(Side::Sell)
+        )
     }
 
     // Whether the bid is the level's market price, and not the ask.
     fn looks_at_bid(self) -> bool
         ensures { result ≡ at_bid self }
     {
-        match self {
-            LevelKind::Entry(OrderType::BuyLimit) => false,
-            LevelKind::Entry(OrderType::BuyStop) => false,
-            LevelKind::Entry(OrderType::SellLimit) => true,
-            LevelKind::Entry(OrderType::SellStop) => true,
-            LevelKind::StopLoss(Side::Buy) => true,
-            LevelKind::StopLoss(Side::Sell) => false,
-            LevelKind::TakeProfit(Side::Buy) => true,
-            LevelKind::TakeProfit(Side::Sell) => false,
-        }
+        matches!(
+            self,
+            LevelKind::Entry(OrderType::SellLimit | OrderType::SellStop)
+                | LevelKind::StopLoss(Side::Buy)
+                | LevelKind::TakeProfit(Side::Buy)
+        )
     }
 
     // The price that the level is compared with.
@@ -75,6 +66,16 @@ impl LevelKind {
             prices.bid
         } else {
             prices.ask
+        }
+    }
+}
+
+impl fmt::Display for LevelKind {
+    fn fmt<W: fmt::Write>(&self, f: &mut fmt::Formatter<W>) -> fmt::Result {
+        match self {
+            LevelKind::Entry(order) => order.fmt(f),
+            LevelKind::StopLoss(_) => f.pad("stop loss"),
+            LevelKind::TakeProfit(_) => f.pad("take profit"),
         }
     }
 }

@@ -3,6 +3,7 @@ ghost use Rattle.std.specs.Prelude.{◌≡◌};
 ghost use Rattle.terms.specs.Sides.{side_of};
 
 use crate::side::Side;
+use std::fmt;
 
 #[derive(Clone, Copy)]
 pub enum OrderType {
@@ -18,10 +19,19 @@ impl OrderType {
         ensures { result ≡ side_of self }
     {
         match self {
-            OrderType::BuyLimit => Side::Buy,
-            OrderType::BuyStop => Side::Buy,
-            OrderType::SellLimit => Side::Sell,
-            OrderType::SellStop => Side::Sell,
+            OrderType::BuyLimit | OrderType::BuyStop => Side::Buy,
+            OrderType::SellLimit | OrderType::SellStop => Side::Sell,
         }
+    }
+}
+
+impl fmt::Display for OrderType {
+    fn fmt<W: fmt::Write>(&self, f: &mut fmt::Formatter<W>) -> fmt::Result {
+        f.pad(match self {
+            OrderType::BuyLimit => "buy limit",
+            OrderType::BuyStop => "buy stop",
+            OrderType::SellLimit => "sell limit",
+            OrderType::SellStop => "sell stop",
+        })
     }
 }

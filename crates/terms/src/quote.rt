@@ -13,9 +13,8 @@ pub struct Prices {
 // Made from prices by a check, so that whoever values by it has nothing to ask of them.
 #[derive(Clone, Copy)]
 pub struct Quote {
-    bid: u32,
-    ask: u32,
-    ghost bid_priced: { Price bid },
-    ghost ask_priced: { Price ask },
-    ghost ordered: { bid ≤ ask },
+    prices: Prices,
+    ghost bid_priced: { Price prices.bid },
+    ghost ask_priced: { Price prices.ask },
+    ghost ordered: { prices.bid ≤ prices.ask },
 }

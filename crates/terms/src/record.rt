@@ -7,46 +7,30 @@ use crate::refusal::Refusal;
 
 #[derive(Clone, Copy)]
 pub enum Code {
-    PaidIn,
-    PaidOut,
-    Placed,
-    Opened,
-    Filled,
-    Modified,
-    Deleted,
-    Expired,
-    Closed,
-    StopLoss,
-    TakeProfit,
-    StopOut,
-    Swap,
-    Declined,
-    Lapsed,
-    Removed,
+    PaidIn = 1,
+    PaidOut = 2,
+    Placed = 3,
+    Opened = 4,
+    Filled = 5,
+    Modified = 6,
+    Deleted = 7,
+    Expired = 8,
+    Closed = 9,
+    StopLoss = 10,
+    TakeProfit = 11,
+    StopOut = 12,
+    Swap = 13,
+    Declined = 14,
+    Lapsed = 15,
+    Removed = 16,
 }
 
-impl Code {
-    pub fn number(self) -> u8
-        ensures { result ≡ code_number self }
-    {
-        match self {
-            Code::PaidIn => 1,
-            Code::PaidOut => 2,
-            Code::Placed => 3,
-            Code::Opened => 4,
-            Code::Filled => 5,
-            Code::Modified => 6,
-            Code::Deleted => 7,
-            Code::Expired => 8,
-            Code::Closed => 9,
-            Code::StopLoss => 10,
-            Code::TakeProfit => 11,
-            Code::StopOut => 12,
-            Code::Swap => 13,
-            Code::Declined => 14,
-            Code::Lapsed => 15,
-            Code::Removed => 16,
-        }
+// By itself, as that of a refusal: none can be written over all enums that have numbers, nor by a macro.
+impl From<Code> for u8 {
+    ghost from_gives = { λ code number. number ≡ code_number code };
+
+    fn from(code: Code) -> u8 {
+        code as u8
     }
 }
 
@@ -64,13 +48,10 @@ pub struct Record {
 }
 
 impl Record {
-    // The number of the refusal that was the cause, and 0 where there is none.
+    // The number of the refusal that was the cause, and 0 where there is none; no `From`, as that 0 is a convention of records alone.
     pub fn cause_number(self) -> u8
         ensures { result ≡ cause_number self.cause }
     {
-        match self.cause {
-            Some(refusal) => refusal.number(),
-            None => 0,
-        }
+        self.cause.map_or(0, u8::from)
     }
 }

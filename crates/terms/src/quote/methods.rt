@@ -1,45 +1,50 @@
 // How a quote is made, and the prices that deals are made at.
-ghost use Rattle.std.specs.Prelude.{◌≡◌, if◌then◌else◌, Some, None};
-ghost use Rattle.std.specs.Option.{option_map};
+ghost use Rattle.std.specs.Prelude.{◌≡◌};
 ghost use Rattle.terms.specs.Levels.{market_price};
 ghost use Rattle.limits.specs.Bounds.{Price};
-ghost use Rattle.terms.specs.Quotes.{quotable, prices_of, opening_price, closing_price};
+ghost use Rattle.terms.specs.Quotes.{QuoteOf, prices_of, opening_price, closing_price};
 
 use crate::level::LevelKind;
 use crate::quote::{Prices, Quote};
+use crate::refusal::Refusal;
 use crate::side::Side;
-use limits::is_price;
+use limits::Quantity;
 
-impl Quote {
-    // The quote of two prices, unless one is outside the limits or the bid is above the ask.
-    pub fn from_prices(prices: Prices) -> Option<Quote>
-        ensures { option_map prices_of result ≡ (if quotable prices then Some prices else None) }
-    {
+// The quote of two prices, unless one is outside the limits or the bid is above the ask.
+impl TryFrom<Prices> for Quote {
+    type Error = Refusal;
+
+    ghost try_from_gives = { QuoteOf };
+
+    fn try_from(prices: Prices) -> Result<Quote, Refusal> {
         let Prices { bid, ask } = prices;
-        if is_price(bid as u64) && is_price(ask as u64) && bid <= ask {
-            Some(Quote { bid, ask })
+        let is_price = |n| Quantity::Price.admits(u64::from(n));
+        if is_price(bid) && is_price(ask) && bid <= ask {
+            Ok(Quote { prices })
         } else {
-            None
+            Err(Refusal::OutsideLimits)
         }
     }
+}
 
-    pub fn prices(self) -> Prices
-        ensures { result ≡ prices_of self }
-    {
-        Prices {
-            bid: self.bid,
-            ask: self.ask,
-        }
+impl From<Quote> for Prices {
+    ghost from_gives = { λ quote prices. prices ≡ prices_of quote };
+
+    fn from(quote: Quote) -> Prices {
+        quote.prices
     }
+}
 
+// Each price is promised inside its limits beside its value: a type of such prices would be asked of rules and kinds, which take any number.
+impl Quote {
     // A buy opens at the ask, a sell at the bid.
     pub fn opening(self, side: Side) -> u32
         ensures value { result ≡ opening_price side (prices_of self) }
         ensures priced { Price result }
     {
         match side {
-            Side::Buy => self.ask,
-            Side::Sell => self.bid,
+            Side::Buy => self.prices.ask,
+            Side::Sell => self.prices.bid,
         }
     }
 
@@ -56,6 +61,6 @@ impl Quote {
         ensures value { result ≡ market_price kind (prices_of self) }
         ensures priced { Price result }
     {
-        kind.market(self.prices())
+        kind.market(self.prices)
     }
 }
