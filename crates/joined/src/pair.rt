@@ -1,12 +1,12 @@
 // Two kinds as one: even numbers are the first's, odd ones the second's.
-ghost use Rattle.std.specs.Prelude.{◌≡◌, ◌%◌, false};
-ghost use Rattle.joined.specs.Routes.{even, first_part, second_part, joined_admits, joined_pays, joined_needs};
+ghost use Rattle.std.specs.Prelude.{◌≡◌};
+ghost use Rattle.joined.specs.Routes.{part_of, joined_admits, joined_pays, joined_needs};
 ghost use Rattle.joined.specs.Lemmas.Routed.{joined_flat, joined_opposite, joined_bounded, joined_margined, joined_unpaid, joined_unmargined};
 ghost use Rattle.std.proofs.Common.{rules};
 
+use kinds::deal::{Deal, Holding};
 use kinds::kind::ContractKind;
 use terms::contract::Contract;
-use terms::side::Side;
 
 #[derive(Clone, Copy)]
 pub struct Joined<A, B> {
@@ -14,102 +14,66 @@ pub struct Joined<A, B> {
     pub second: B,
 }
 
-fn is_even(contract: Contract) -> bool
-    ensures { result ≡ even contract }
-{
-    contract.number % 2 == 0
+// A contract as the kind that it belongs to reads it.
+enum Part {
+    First(Contract),
+    Second(Contract),
 }
 
-fn to_first(contract: Contract) -> Contract
-    ensures { result ≡ first_part contract }
+// Which kind a contract belongs to, by its number, which that kind reads halved.
+fn part_of(contract: Contract) -> Part
+    ensures { result ≡ part_of contract }
 {
-    Contract {
+    let read = Contract {
         number: contract.number / 2,
         ..contract
-    }
-}
-
-fn to_second(contract: Contract) -> Contract
-    requires { even contract ≡ false }
-    ensures { result ≡ second_part contract }
-{
-    Contract {
-        number: (contract.number - 1) / 2,
-        ..contract
+    };
+    if contract.number % 2 == 0 {
+        Part::First(read)
+    } else {
+        Part::Second(read)
     }
 }
 
 impl<A: ContractKind, B: ContractKind> ContractKind for Joined<A, B> {
-    ghost admits = { λ k. joined_admits (A.ContractKind.admits k.first) (B.ContractKind.admits k.second) };
+    ghost admits = { λ k. joined_admits (A.admits k.first) (B.admits k.second) };
 
-    ghost pays = { λ k. joined_pays (A.ContractKind.pays k.first) (B.ContractKind.pays k.second) };
+    ghost pays = { λ k. joined_pays (A.pays k.first) (B.pays k.second) };
 
-    ghost needs = { λ k. joined_needs (A.ContractKind.needs k.first) (B.ContractKind.needs k.second) };
+    ghost needs = { λ k. joined_needs (A.needs k.first) (B.needs k.second) };
 
     ghost confined = { Prim.search rules };
 
-    ghost flat = { λ k.
-        let a = A.ContractKind in
-        let b = B.ContractKind in
-        joined_flat (a.admits k.first) (b.admits k.second) (a.pays k.first) (b.pays k.second) (A.ContractKind.flat k.first) (B.ContractKind.flat k.second) };
+    ghost flat = { λ k. joined_flat _ _ (A.pays k.first) (B.pays k.second) (A.flat k.first) (B.flat k.second) };
 
-    ghost opposite = { λ k.
-        let a = A.ContractKind in
-        let b = B.ContractKind in
-        joined_opposite (a.admits k.first) (b.admits k.second) (a.pays k.first) (b.pays k.second) (A.ContractKind.opposite k.first) (B.ContractKind.opposite k.second) };
+    ghost opposite = { λ k. joined_opposite _ _ (A.pays k.first) (B.pays k.second) (A.opposite k.first) (B.opposite k.second) };
 
-    ghost bounded = { λ k.
-        let a = A.ContractKind in
-        let b = B.ContractKind in
-        joined_bounded (a.admits k.first) (b.admits k.second) (a.pays k.first) (b.pays k.second) (A.ContractKind.bounded k.first) (B.ContractKind.bounded k.second) };
+    ghost bounded = { λ k. joined_bounded _ _ (A.pays k.first) (B.pays k.second) (A.bounded k.first) (B.bounded k.second) };
 
-    ghost margined = { λ k.
-        let a = A.ContractKind in
-        let b = B.ContractKind in
-        joined_margined (a.admits k.first) (b.admits k.second) (a.needs k.first) (b.needs k.second) (A.ContractKind.margined k.first) (B.ContractKind.margined k.second) };
+    ghost margined = { λ k. joined_margined _ _ (A.needs k.first) (B.needs k.second) (A.margined k.first) (B.margined k.second) };
 
-    ghost unpaid = { λ k.
-        let a = A.ContractKind in
-        let b = B.ContractKind in
-        joined_unpaid (a.admits k.first) (b.admits k.second) (a.pays k.first) (b.pays k.second) (A.ContractKind.unpaid k.first) (B.ContractKind.unpaid k.second) };
+    ghost unpaid = { λ k. joined_unpaid _ _ (A.pays k.first) (B.pays k.second) (A.unpaid k.first) (B.unpaid k.second) };
 
-    ghost unmargined = { λ k.
-        let a = A.ContractKind in
-        let b = B.ContractKind in
-        joined_unmargined (a.admits k.first) (b.admits k.second) (a.needs k.first) (b.needs k.second) (A.ContractKind.unmargined k.first) (B.ContractKind.unmargined k.second) };
+    ghost unmargined = { λ k. joined_unmargined _ _ (A.needs k.first) (B.needs k.second) (A.unmargined k.first) (B.unmargined k.second) };
 
     fn admitted(&self, contract: Contract) -> bool {
-        if is_even(contract) {
-            self.first.admitted(to_first(contract))
-        } else {
-            self.second.admitted(to_second(contract))
+        match part_of(contract) {
+            Part::First(contract) => self.first.admitted(contract),
+            Part::Second(contract) => self.second.admitted(contract),
         }
     }
 
-    fn payment(
-        &self,
-        contract: Contract,
-        side: Side,
-        opened: u32,
-        closed: u32,
-        volume: u32,
-    ) -> i64 {
-        if is_even(contract) {
-            self.first
-                .payment(to_first(contract), side, opened, closed, volume)
-        } else {
-            self.second
-                .payment(to_second(contract), side, opened, closed, volume)
+    fn payment(&self, contract: Contract, deal: Deal) -> i64 {
+        match part_of(contract) {
+            Part::First(contract) => self.first.payment(contract, deal),
+            Part::Second(contract) => self.second.payment(contract, deal),
         }
     }
 
-    fn margin(&self, contract: Contract, leverage: u32, opened: u32, volume: u32) -> u64 {
-        if is_even(contract) {
-            self.first
-                .margin(to_first(contract), leverage, opened, volume)
-        } else {
-            self.second
-                .margin(to_second(contract), leverage, opened, volume)
+    fn margin(&self, contract: Contract, holding: Holding) -> u64 {
+        match part_of(contract) {
+            Part::First(contract) => self.first.margin(contract, holding),
+            Part::Second(contract) => self.second.margin(contract, holding),
         }
     }
 }

@@ -3,12 +3,12 @@ ghost use Rattle.std.specs.Prelude.{◌≡◌};
 ghost use Rattle.joined.specs.UnitKinds.{unit_admits, unit_pays, unit_needs, Numbers};
 
 use crate::pair::Joined;
+use kinds::deal::{Deal, Holding};
 use kinds::direct::Direct;
 use kinds::indirect::Indirect;
 use kinds::kind::ContractKind;
 use kinds::share::Share;
 use terms::contract::Contract;
-use terms::side::Side;
 
 pub type UnitKinds = Joined<Direct, Joined<Indirect, Share>>;
 
@@ -31,14 +31,14 @@ pub fn unit_admitted(contract: Contract) -> bool
     unit_kinds().admitted(contract)
 }
 
-pub fn unit_payment(contract: Contract, side: Side, opened: u32, closed: u32, volume: u32) -> i64
-    ensures { result ≡ unit_pays contract side opened closed volume }
+pub fn unit_payment(contract: Contract, deal: Deal) -> i64
+    ensures { result ≡ unit_pays contract deal.side deal.opened deal.closed deal.volume }
 {
-    unit_kinds().payment(contract, side, opened, closed, volume)
+    unit_kinds().payment(contract, deal)
 }
 
-pub fn unit_margin(contract: Contract, leverage: u32, opened: u32, volume: u32) -> u64
-    ensures { result ≡ unit_needs contract leverage opened volume }
+pub fn unit_margin(contract: Contract, holding: Holding) -> u64
+    ensures { result ≡ unit_needs contract holding.leverage holding.opened holding.volume }
 {
-    unit_kinds().margin(contract, leverage, opened, volume)
+    unit_kinds().margin(contract, holding)
 }

@@ -1,1 +1,3 @@
 pub mod Everywhere
+pub mod Most
+pub mod Asked

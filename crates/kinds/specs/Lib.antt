@@ -5,4 +5,5 @@ pub mod Laws
 pub mod Payments
 pub mod Ranges
 pub mod Share
+pub mod Shipped
 pub mod Lemmas

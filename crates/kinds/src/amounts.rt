@@ -1,29 +1,28 @@
-// The amounts that kinds share.
-ghost use Rattle.std.specs.Prelude.{◌≡◌, ◌*◌, ◌^◌, ◌<◌, ◌≤◌, true, pos, ◌-ℤ◌, unsigned_abs};
+// The amounts that kinds share: steps of their arithmetic. Each asks for its own bounds, which a type for all would have to be the strictest of.
+ghost use Rattle.std.specs.Prelude.{◌≡◌, ◌*◌, ◌^◌, ◌<◌, ◌≤◌, pos, ◌-ℤ◌, unsigned_abs};
 ghost use Rattle.kinds.specs.Amounts.{gained, by_side, rounded_up};
-ghost use Rattle.kinds.specs.Payments.{paid, points};
 
-use crate::ranges::is_deal;
-use terms::contract::Contract;
+use crate::deal::{Deal, Holding};
 use terms::side::Side;
 
-fn price_change(opened: u32, closed: u32) -> i64
-    ensures { result ≡ pos closed -ℤ pos opened }
+fn price_change(deal: Deal) -> i64
+    ensures { result ≡ pos deal.closed -ℤ pos deal.opened }
 {
-    closed as i64 - opened as i64
+    i64::from(deal.closed) - i64::from(deal.opened)
 }
 
-// What a buy gains between two prices, at `units` for each point.
-pub fn gain(opened: u32, closed: u32, units: u32) -> i64
-    requires opened_priced { opened ≤ 1000000 }
-    requires closed_priced { closed ≤ 1000000 }
-    ensures value { result ≡ gained opened closed units }
-    ensures small { unsigned_abs result ≤ 1000000 * units }
+// What a buy gains where each point is worth volume × size.
+pub fn point_gain(deal: Deal, size: u32) -> i64
+    requires opened_priced { deal.opened ≤ 1000000 }
+    requires closed_priced { deal.closed ≤ 1000000 }
+    requires volume_small { deal.volume ≤ 10000 }
+    requires size_small { size ≤ 100000 }
+    ensures { result ≡ gained deal.opened deal.closed (deal.volume * size) }
 {
-    price_change(opened, closed) * units as i64
+    price_change(deal) * i64::from(units(deal.volume, size))
 }
 
-// The payment of a side, from that of a buy.
+// What is paid for a side, from what a buy gains.
 pub fn signed(side: Side, buy: i64) -> i64
     requires { unsigned_abs buy < 2 ^ 63 }
     ensures { result ≡ by_side side buy }
@@ -31,25 +30,6 @@ pub fn signed(side: Side, buy: i64) -> i64
     match side {
         Side::Buy => buy,
         Side::Sell => -buy,
-    }
-}
-
-// What a closing pays where each point is worth volume × size cents.
-pub fn point_payment(
-    admitted: bool,
-    contract: Contract,
-    side: Side,
-    opened: u32,
-    closed: u32,
-    volume: u32,
-) -> i64
-    requires { admitted ≡ true → contract.size ≤ 100 }
-    ensures { result ≡ paid admitted points contract side opened closed volume }
-{
-    if admitted && is_deal(opened, closed, volume) {
-        signed(side, gain(opened, closed, units(volume, contract.size)))
-    } else {
-        0
     }
 }
 
@@ -63,14 +43,14 @@ pub fn units(volume: u32, size: u32) -> u32
 }
 
 // volume × open × size
-pub fn worth(volume: u32, opened: u32, size: u32) -> u64
-    requires volume_small { volume ≤ 10000 }
-    requires opened_priced { opened ≤ 1000000 }
+pub fn worth(holding: Holding, size: u32) -> u64
+    requires volume_small { holding.volume ≤ 10000 }
+    requires opened_priced { holding.opened ≤ 1000000 }
     requires size_small { size ≤ 100 }
-    ensures value { result ≡ volume * opened * size }
+    ensures value { result ≡ holding.volume * holding.opened * size }
     ensures small { result ≤ 1000000000000 }
 {
-    volume as u64 * opened as u64 * size as u64
+    u64::from(holding.volume) * u64::from(holding.opened) * u64::from(size)
 }
 
 // `amount / by`, rounded up.
@@ -78,5 +58,5 @@ pub fn up(amount: u64, by: u32) -> u64
     requires { 0 < by }
     ensures { result ≡ rounded_up amount by }
 {
-    amount.div_ceil(by as u64)
+    amount.div_ceil(u64::from(by))
 }

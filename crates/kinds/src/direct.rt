@@ -1,78 +1,59 @@
 // A contract quoted in the currency of the accounts.
-ghost use Rattle.kinds.specs.Direct.{direct_admits, direct_pays, direct_needs};
+ghost use Rattle.std.specs.Prelude.{◌*◌, ◌==◌, refl};
 ghost use Rattle.std.proofs.Common.{arith};
-ghost use Rattle.std.specs.Prelude.{◌*◌, ◌==◌};
 ghost use Rattle.std.proofs.lemmas.Bool.{eqb-true};
-ghost use Rattle.kinds.specs.Lemmas.Admitted.{sized_confined, sized};
+ghost use Rattle.kinds.specs.Amounts.{rounded_up};
+ghost use Rattle.kinds.specs.Direct.{direct_admits, direct_pays, direct_needs};
 ghost use Rattle.kinds.specs.Payments.{points};
-ghost use Rattle.kinds.specs.Lemmas.Shipped.{flat_paid, opposite_paid, bounded_paid, margined_needed};
+ghost use Rattle.kinds.specs.Lemmas.Bounds.{points_most, worth_amount};
 ghost use Rattle.kinds.specs.Lemmas.Sizes.{gained_flat};
-ghost use Rattle.kinds.specs.Lemmas.Bounds.{points_most, worth_most, worth_least};
-ghost use Rattle.std.proofs.Common.{rules};
 
-use crate::amounts::{point_payment, up, worth};
-use crate::kind::ContractKind;
-use crate::ranges::is_holding;
+use crate::amounts::{point_gain, up, worth};
+use crate::deal::{Deal, Holding};
+use crate::shipped::Shipped;
 use terms::contract::Contract;
-use terms::side::Side;
 
 #[derive(Clone, Copy)]
 pub struct Direct;
 
-impl ContractKind for Direct {
-    ghost admits = { λ _. direct_admits };
+impl Shipped for Direct {
+    ghost LARGEST = { 100 };
 
-    ghost pays = { λ _. direct_pays };
+    ghost percentages = { λ p. p == 0 };
 
-    ghost needs = { λ _. direct_needs };
+    ghost gains = { points };
 
-    ghost confined = { λ k c h. sized_confined c 100 (c.percentage == 0) (omega arith) (λ e. omega (arith, eqb-true c.percentage 0 e)) h };
+    ghost amounts = { λ c l o v. rounded_up (v * o * c.size) l };
 
-    ghost flat = { λ k. flat_paid direct_admits points (λ c o v. gained_flat o (v * c.size)) };
+    ghost admits = { direct_admits };
 
-    ghost opposite = { λ k. opposite_paid direct_admits points };
+    ghost pays = { direct_pays };
 
-    ghost bounded = { λ k. bounded_paid direct_admits points (λ c o k v h ho hk. points_most o k v c.size ho hk (sized c 100 (c.percentage == 0) h).0.1) };
+    ghost needs = { direct_needs };
 
-    ghost margined = { λ k c l o v h hl ho hv.
-        let s = sized c 100 (c.percentage == 0) h in
-        let w = worth_most v o c.size hv.1 ho.1 s.0.1 in
-        margined_needed (direct_admits c) (v * o * c.size) l l o v h hl ho hv (omega arith) (worth_least v o c.size hv.0 (omega arith) s.0.0) (omega arith) };
+    ghost answers = { (refl, refl, refl) };
 
-    ghost unpaid = { Prim.search rules };
+    ghost sizes_small = { omega arith };
 
-    ghost unmargined = { Prim.search rules };
+    ghost percentages_small = { λ p e. omega (arith, eqb-true p 0 e) };
 
-    fn admitted(&self, contract: Contract) -> bool {
-        contract.number == 0
-            && 1 <= contract.size
-            && contract.size <= 100
-            && contract.percentage == 0
+    ghost gains_flat = { λ c o v. gained_flat o (v * c.size) };
+
+    ghost gains_bounded = { λ c o k v. points_most o k v c.size };
+
+    ghost amounts_bounded = { λ c l o v s _ hl ho hv. worth_amount l o v c.size hl ho hv s };
+
+    const LARGEST: u32 = 100;
+
+    fn has_percentage(percentage: u8) -> bool {
+        percentage == 0
     }
 
-    fn payment(
-        &self,
-        contract: Contract,
-        side: Side,
-        opened: u32,
-        closed: u32,
-        volume: u32,
-    ) -> i64 {
-        point_payment(
-            self.admitted(contract),
-            contract,
-            side,
-            opened,
-            closed,
-            volume,
-        )
+    fn gain(contract: Contract, deal: Deal) -> i64 {
+        point_gain(deal, contract.size)
     }
 
-    fn margin(&self, contract: Contract, leverage: u32, opened: u32, volume: u32) -> u64 {
-        if self.admitted(contract) && is_holding(leverage, opened, volume) {
-            up(worth(volume, opened, contract.size), leverage)
-        } else {
-            0
-        }
+    fn amount(contract: Contract, holding: Holding) -> u64 {
+        up(worth(holding, contract.size), holding.leverage)
     }
 }

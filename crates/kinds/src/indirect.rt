@@ -1,76 +1,59 @@
 // A contract quoted in another currency: a gain is turned into the accounts' currency at the closing price.
-ghost use Rattle.kinds.specs.Indirect.{indirect_admits, indirect_pays, indirect_needs, converted};
+ghost use Rattle.std.specs.Prelude.{◌*◌, ◌==◌, refl};
 ghost use Rattle.std.proofs.Common.{arith};
-ghost use Rattle.std.specs.Prelude.{◌*◌, ◌==◌};
 ghost use Rattle.std.proofs.lemmas.Bool.{eqb-true};
-ghost use Rattle.kinds.specs.Lemmas.Admitted.{sized_confined, sized};
-ghost use Rattle.kinds.specs.Lemmas.Shipped.{flat_paid, opposite_paid, bounded_paid, margined_needed};
+ghost use Rattle.kinds.specs.Amounts.{rounded_up};
+ghost use Rattle.kinds.specs.Indirect.{converted, indirect_admits, indirect_pays, indirect_needs};
+ghost use Rattle.kinds.specs.Lemmas.Bounds.{converted_most, units_amount};
 ghost use Rattle.kinds.specs.Lemmas.Sizes.{converted_flat};
-ghost use Rattle.kinds.specs.Lemmas.Bounds.{converted_most};
-ghost use Rattle.std.proofs.lemmas.Nat.{mul-le};
-ghost use Rattle.std.proofs.Common.{rules};
 
-use crate::amounts::{gain, signed, units, up};
-use crate::kind::ContractKind;
-use crate::ranges::{is_deal, is_holding};
+use crate::amounts::{point_gain, units, up};
+use crate::deal::{Deal, Holding};
+use crate::shipped::Shipped;
 use terms::contract::Contract;
-use terms::side::Side;
 
 #[derive(Clone, Copy)]
 pub struct Indirect;
 
-impl ContractKind for Indirect {
-    ghost admits = { λ _. indirect_admits };
+impl Shipped for Indirect {
+    ghost LARGEST = { 100000 };
 
-    ghost pays = { λ _. indirect_pays };
+    ghost percentages = { λ p. p == 0 };
 
-    ghost needs = { λ _. indirect_needs };
+    ghost gains = { converted };
 
-    ghost confined = { λ k c h. sized_confined c 100000 (c.percentage == 0) (omega arith) (λ e. omega (arith, eqb-true c.percentage 0 e)) h };
+    ghost amounts = { λ c l o v. rounded_up (v * c.size) l };
 
-    ghost flat = { λ k. flat_paid indirect_admits converted (λ c o v. converted_flat o (v * c.size)) };
+    ghost admits = { indirect_admits };
 
-    ghost opposite = { λ k. opposite_paid indirect_admits converted };
+    ghost pays = { indirect_pays };
 
-    ghost bounded = { λ k. bounded_paid indirect_admits converted (λ c o k v h ho hk. converted_most o k v c.size ho hk (sized c 100000 (c.percentage == 0) h).0.1) };
+    ghost needs = { indirect_needs };
 
-    ghost margined = { λ k c l o v h hl ho hv.
-        let s = sized c 100000 (c.percentage == 0) h in
-        let w = mul-le v c.size 10000 100000 hv.1 s.0.1 in
-        margined_needed (indirect_admits c) (v * c.size) l l o v h hl ho hv (omega arith) (mul-le 1 1 v c.size hv.0 s.0.0) (omega arith) };
+    ghost answers = { (refl, refl, refl) };
 
-    ghost unpaid = { Prim.search rules };
+    ghost sizes_small = { omega arith };
 
-    ghost unmargined = { Prim.search rules };
+    ghost percentages_small = { λ p e. omega (arith, eqb-true p 0 e) };
 
-    fn admitted(&self, contract: Contract) -> bool {
-        contract.number == 0
-            && 1 <= contract.size
-            && contract.size <= 100_000
-            && contract.percentage == 0
+    ghost gains_flat = { λ c o v. converted_flat o (v * c.size) };
+
+    ghost gains_bounded = { λ c o k v. converted_most o k v c.size };
+
+    ghost amounts_bounded = { λ c l o v s _ hl _ hv. units_amount l v c.size hl hv s };
+
+    const LARGEST: u32 = 100_000;
+
+    fn has_percentage(percentage: u8) -> bool {
+        percentage == 0
     }
 
-    fn payment(
-        &self,
-        contract: Contract,
-        side: Side,
-        opened: u32,
-        closed: u32,
-        volume: u32,
-    ) -> i64 {
-        if self.admitted(contract) && is_deal(opened, closed, volume) {
-            let foreign = gain(opened, closed, units(volume, contract.size));
-            signed(side, foreign / closed as i64)
-        } else {
-            0
-        }
+    fn gain(contract: Contract, deal: Deal) -> i64 {
+        point_gain(deal, contract.size) / i64::from(deal.closed)
     }
 
-    fn margin(&self, contract: Contract, leverage: u32, opened: u32, volume: u32) -> u64 {
-        if self.admitted(contract) && is_holding(leverage, opened, volume) {
-            up(units(volume, contract.size) as u64, leverage)
-        } else {
-            0
-        }
+    fn amount(contract: Contract, holding: Holding) -> u64 {
+        let foreign = units(holding.volume, contract.size);
+        up(u64::from(foreign), holding.leverage)
     }
 }

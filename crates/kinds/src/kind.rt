@@ -2,8 +2,8 @@
 ghost use Rattle.std.specs.Prelude.{◌≡◌};
 ghost use Rattle.kinds.specs.Laws.{Admits, Pays, Needs, Confined, Flat, Opposite, Bounded, Margined, Unpaid, Unmargined};
 
+use crate::deal::{Deal, Holding};
 use terms::contract::Contract;
-use terms::side::Side;
 
 // The members say what a kind means: each answer is a function of what is asked.
 pub trait ContractKind {
@@ -17,13 +17,13 @@ pub trait ContractKind {
     fn admitted(&self, contract: Contract) -> bool
         ensures { result ≡ admits self.now contract };
 
-    // What closing a position of that volume pays.
-    fn payment(&self, contract: Contract, side: Side, opened: u32, closed: u32, volume: u32) -> i64
-        ensures { result ≡ pays self.now contract side opened closed volume };
+    // What a closing pays.
+    fn payment(&self, contract: Contract, deal: Deal) -> i64
+        ensures { result ≡ pays self.now contract deal.side deal.opened deal.closed deal.volume };
 
-    // What margin a position of that volume needs.
-    fn margin(&self, contract: Contract, leverage: u32, opened: u32, volume: u32) -> u64
-        ensures { result ≡ needs self.now contract leverage opened volume };
+    // What margin a position needs.
+    fn margin(&self, contract: Contract, holding: Holding) -> u64
+        ensures { result ≡ needs self.now contract holding.leverage holding.opened holding.volume };
 
     // The laws that each kind owes. A ghost member is a law because it stands below the last method.
     ghost confined: { (k : Self) → Confined (admits k) };

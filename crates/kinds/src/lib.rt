@@ -3,8 +3,9 @@
 #![tactic(auto)]
 
 mod amounts;
+pub mod deal;
 pub mod direct;
 pub mod indirect;
 pub mod kind;
-mod ranges;
 pub mod share;
+pub mod shipped;

@@ -1,5 +1,5 @@
-use Rattle.std.proofs.Common.{refl}
-use Rattle.joined.proofs.Numbered.{only_three}
+use Rattle.std.proofs.Common.{refl, arith}
+use Rattle.std.proofs.lemmas.Bool.Decides.{nat_tests}
 use Rattle.joined.proofs.unit.unit_kinds.Goals as goal
 
 pub returns : goal.returns
@@ -8,5 +8,5 @@ returns c =
       direct = λ c. (refl, λ s o k v. refl, λ l o v. refl);
       indirect = λ c. (refl, λ s o k v. refl, λ l o v. refl);
       share = λ c. (refl, λ s o k v. refl, λ l o v. refl);
-      others = only_three;
+      others = λ c h. grind (arith, nat_tests);
     }
