@@ -6,8 +6,9 @@ mod position;
 mod tables;
 mod worked;
 
+use fill_table::fills::FillTable;
 use std::io;
-use tables::{FillTable, MarginTable, ResultTable, StopOutTable};
+use tables::{MarginTable, ResultTable, StopOutTable};
 use worked::LEVERAGE;
 
 fn main(rt: HostRuntime) -> io::Result<()> {

@@ -3,6 +3,7 @@ ghost use Rattle.std.specs.Prelude.{◌≡◌};
 ghost use Rattle.demo.specs.WorkedDeal.{result_of, margin_of, candidate_of};
 
 use joined::unit::{unit_margin, unit_payment};
+use kinds::deal::{Deal, Holding};
 use rules::candidate::Candidate;
 use terms::contract::Contract;
 use terms::side::Side;
@@ -21,16 +22,27 @@ impl Position {
     pub fn result(self, side: Side, closed: u32) -> i64
         ensures { result ≡ result_of self side closed }
     {
-        unit_payment(self.contract, side, self.opened, closed, self.volume)
+        let deal = Deal {
+            side,
+            opened: self.opened,
+            closed,
+            volume: self.volume,
+        };
+        unit_payment(self.contract, deal)
     }
 
     pub fn margin(self, leverage: u32) -> u64
         ensures { result ≡ margin_of self leverage }
     {
-        unit_margin(self.contract, leverage, self.opened, self.volume)
+        let holding = Holding {
+            leverage,
+            opened: self.opened,
+            volume: self.volume,
+        };
+        unit_margin(self.contract, holding)
     }
 
-    // The position as a closing rule is told of it.
+    // The position as a closing rule is told of it; no `From`, since leverage and closing price are no part of a position on paper.
     pub fn candidate(self, leverage: u32, closed: u32) -> Candidate
         ensures { result ≡ candidate_of self leverage closed }
     {

@@ -1,7 +1,6 @@
 // The tables of the print-out, each line worked out as it is written.
-use crate::worked::{LEVERAGE, POSITIONS, STRUCK, candidates, ticket_named};
-use rules::closing::{EarliestFirst, WorstFirst};
-use rules::fill::{FillRule, FirstQuoteRule, TermsRule};
+use crate::worked::{LEVERAGE, POSITIONS, candidates};
+use rules::closing::{ClosingRule, EarliestFirst, WorstFirst};
 use std::fmt;
 use terms::side::Side;
 
@@ -26,31 +25,6 @@ impl fmt::Display for MarginTable {
                 position.opened,
                 position.margin(LEVERAGE)
             )?;
-        }
-        Ok(())
-    }
-}
-
-pub struct FillTable;
-
-impl fmt::Display for FillTable {
-    fn fmt<W: fmt::Write>(&self, f: &mut fmt::Formatter<W>) -> fmt::Result {
-        writeln!(f, "Price dealt    level  market  gap  terms  first quote")?;
-        for (name, kind, level, prices) in STRUCK {
-            let works = kind.works();
-            let market = kind.market(prices);
-            for gap in [false, true] {
-                writeln!(
-                    f,
-                    "  {:<12} {:>5}  {:>6}  {:<3}  {:>5}  {:>11}",
-                    name,
-                    level,
-                    market,
-                    if gap { "yes" } else { "no" },
-                    TermsRule.dealt(works, level, market, gap),
-                    FirstQuoteRule.dealt(works, level, market, gap)
-                )?;
-            }
         }
         Ok(())
     }
@@ -92,12 +66,12 @@ impl fmt::Display for StopOutTable {
         writeln!(
             f,
             "  worst first     {:>4}",
-            ticket_named(&WorstFirst, &candidates)
+            WorstFirst.named(&candidates).ticket
         )?;
         writeln!(
             f,
             "  earliest first  {:>4}",
-            ticket_named(&EarliestFirst, &candidates)
+            EarliestFirst.named(&candidates).ticket
         )
     }
 }

@@ -1,4 +1,4 @@
-// The price dealt where the rule is told that the quote came over a gap.
+// The price dealt where the rule is told that the quote came over a gap. Each figure is a function of its own: a theorem with its numbers.
 ghost use Rattle.std.specs.Prelude.{◌≡◌, true};
 ghost use Rattle.rules.specs.Fill.{terms_deals, first_quote_deals};
 ghost use Rattle.terms.specs.Levels.{works_as, market_price};

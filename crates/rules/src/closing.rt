@@ -1,14 +1,12 @@
 // Which of an account's positions a stop-out closes first.
-ghost use Rattle.std.specs.Prelude.{◌≡◌, ◌<◌, ◌≤◌, length, take, nat_lt};
-ghost use Rattle.rules.specs.Closing.{Picks, Told, NamesOne, tickets, worst_first, earliest_first};
-ghost use Rattle.rules.specs.Least.{first_least};
-ghost use Rattle.rules.specs.Lemmas.Orders.{worst_is, earliest_is};
-ghost use Rattle.std.proofs.Common.{arith};
-ghost use Rattle.rules.specs.Lemmas.Tickets.{length-tickets};
+ghost use Rattle.std.specs.Prelude.{◌≡◌, ◌<◌, length};
+ghost use Rattle.rules.specs.Closing.{Picks, Told, NamesOne, worst_first, earliest_first};
+ghost use Rattle.rules.specs.Named.{at};
+ghost use Rattle.rules.specs.Lemmas.Orders.{worst_is};
+ghost use Rattle.rules.specs.Lemmas.Tickets.{first_names_one};
 
 use crate::candidate::Candidate;
 use crate::least::first_least;
-use limits::LIVE_TICKETS;
 
 // A rule's meaning is the place that it names, as a function of the list that it is told.
 pub trait ClosingRule {
@@ -18,8 +16,16 @@ pub trait ClosingRule {
         requires { Told candidates.now }
         ensures { result ≡ picks self.now candidates.now };
 
-    // The law that each rule owes: it stands below the last method, which makes it one.
+    // The law that each rule owes: it stands below the last method that a rule writes, which makes it one.
     ghost within: { (c : Self) → NamesOne (picks c) };
+
+    // The candidate at the place that the rule names.
+    final fn named(&self, candidates: &[Candidate]) -> Candidate
+        requires { Told candidates.now }
+        ensures { result ≡ at candidates.now (picks self.now candidates.now) }
+    {
+        candidates[self.pick(candidates)]
+    }
 }
 
 // The smallest floating result; of equal ones, that of the lowest ticket.
@@ -43,11 +49,12 @@ pub struct EarliestFirst;
 impl ClosingRule for EarliestFirst {
     ghost picks = { λ _. earliest_first };
 
-    ghost within = { λ c cs told. omega (arith, (earliest_is cs told).within, length-tickets cs) };
+    ghost within = { λ _. first_names_one };
 
-    fn pick(&self, candidates: &[Candidate]) -> usize {
-        let numbers = ticket_numbers(candidates);
-        lowest_number(&numbers[0..candidates.len()])
+    // A rule is told of candidates by rising ticket, so the first has the lowest.
+    #[tactic(auto, using(crate::specs::Lemmas::Tickets::first_is_earliest))]
+    fn pick(&self, _candidates: &[Candidate]) -> usize {
+        0
     }
 }
 
@@ -56,23 +63,4 @@ fn smallest_result(candidates: &[Candidate]) -> usize
     ensures { result ≡ worst_first candidates.now }
 {
     first_least(candidates)
-}
-
-fn lowest_number(numbers: &[u16]) -> usize
-    requires { 0 < length numbers.now }
-    ensures { result ≡ first_least nat_lt numbers.now }
-{
-    first_least(numbers)
-}
-
-// The candidates' ticket numbers, in the first places.
-fn ticket_numbers(candidates: &[Candidate]) -> [u16; LIVE_TICKETS]
-    requires { length candidates.now ≤ 32 }
-    ensures { take (length candidates.now) result ≡ tickets candidates.now }
-{
-    let mut numbers = [0; LIVE_TICKETS];
-    for (i, candidate) in candidates.iter().enumerate() {
-        numbers[i] = candidate.ticket;
-    }
-    numbers
 }

@@ -9,7 +9,7 @@ use terms::level::WorksAs;
 pub trait FillRule {
     ghost deals: { Self → Deals };
 
-    // The level's market price is told, and whether the quote came over a gap.
+    // The level's market price is told, and whether the quote came over a gap: a flag of its own, as a rule may deal either price with a gap or without.
     fn dealt(&self, works: WorksAs, level: u32, market: u32, gap: bool) -> u32
         ensures { result ≡ deals self.now works level market gap };
 
@@ -29,8 +29,7 @@ impl FillRule for TermsRule {
     fn dealt(&self, works: WorksAs, level: u32, market: u32, gap: bool) -> u32 {
         match works {
             WorksAs::Stop if gap => market,
-            WorksAs::Stop => level,
-            WorksAs::Limit => level,
+            WorksAs::Stop | WorksAs::Limit => level,
         }
     }
 }
