@@ -9,7 +9,7 @@ pub fn plus(balance: i64, amount: i64) -> i64
     balance + amount
 }
 
-// What is left of a balance after a payment that it covers.
+// What is left of a balance after a payment that it covers. The cast is proved to keep the amount: `try_from` and `unwrap` would be longer and say no more.
 pub fn minus(balance: i64, amount: u64) -> i64
     requires covered { pos amount ≤ℤ balance }
     ensures value { result ≡ balance -ℤ pos amount }

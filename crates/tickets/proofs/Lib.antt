@@ -1,3 +1,4 @@
+pub mod Changes
 pub mod Laws
 pub mod Limits
 pub mod Lookups

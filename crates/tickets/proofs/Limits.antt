@@ -1,14 +1,14 @@
 -- What stays inside its limits when a ticket changes.
-use Rattle.std.proofs.Common.{◌≡◌, ℕ, ◌-◌, ◌<◌, ◌≤◌, true, ◌&&◌, Some, None, Option, arith}
+use Rattle.std.proofs.Common.{◌≡◌, ℕ, ◌≤◌, true, ◌&&◌, Some, None, Option}
 use Rattle.std.proofs.lemmas.Bool.{and_parts, and_from}
 use Rattle.limits.specs.Bounds.{instrument_ok, price_ok, volume_ok, ticket_ok, time_ok}
-use Rattle.limits.proofs.Within.{between_says, between_true}
+use Rattle.limits.proofs.Within.{between_says}
 use Rattle.terms.specs.declared.protection.Protection.{Protection}
 use Rattle.terms.specs.Protections.{optionally, protection_ok}
 use Rattle.tickets.specs.declared.ticket.Ticket.{Ticket}
 use Rattle.tickets.specs.declared.ticket.TicketState.{TicketState}
 use Rattle.tickets.specs.declared.ticket.TicketState.TheVariants.{Pending, Position}
-use Rattle.tickets.specs.Tickets.{inside, entry_ok, state_ok, moved, modified, reduced}
+use Rattle.tickets.specs.Tickets.{inside, entry_ok, state_ok, moved, modified}
 
 -- the parts of a ticket that is inside
 parts : (t : Ticket) → inside t ≡ true → (ticket_ok t.number ≡ true) × (instrument_ok t.instrument ≡ true) × (volume_ok t.volume ≡ true) × (protection_ok t.protection ≡ true) × (state_ok t.state ≡ true)
@@ -29,12 +29,6 @@ whole t n i v p s =
 -- no ticket has more than 100 lots
 pub inside_volume : (t : Ticket) → inside t ≡ true → t.volume ≤ 10000
 inside_volume t i = (between_says 1 10000 t.volume (parts t i).2).1
-
-pub reduced_inside : (v : ℕ) (t : Ticket) → v < t.volume → inside t ≡ true → inside (reduced v t) ≡ true
-reduced_inside v t h i =
-    let p = parts t i in
-    let w = between_says 1 10000 t.volume p.2 in
-    whole (reduced v t) p.0 p.1 (between_true 1 10000 (t.volume - v) (omega arith, omega (arith, w.1))) p.3 p.4
 
 moved_inside : (level : Option ℕ) (s : TicketState) → state_ok s ≡ true → optionally price_ok level ≡ true → state_ok (moved level s) ≡ true
 moved_inside None s h l = h

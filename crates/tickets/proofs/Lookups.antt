@@ -1,9 +1,9 @@
 -- What a look-up finds.
-use Rattle.std.proofs.Common.{◌≡◌, ℕ, zero, suc, ◌<◌, true, cond, not, eqb, ◌≢◌, List, [], ◌∷◌, length, get_or, Some, None, sym, refl, ap, ◌∙◌, subst, inl, inr, arith}
+use Rattle.std.proofs.Common.{◌≡◌, ℕ, true, cond, not, eqb, ◌≢◌, List, [], ◌∷◌, Some, find, Option, sym, refl, ap, ◌∙◌, subst, inl, inr, arith}
 use Rattle.std.proofs.lemmas.Bool.{cases_eq, cond-true, cond-false, eq-eqb, ne_eqb}
 use Rattle.tickets.specs.declared.ticket.Ticket.{Ticket}
-use Rattle.tickets.specs.Tickets.{blank, inside}
-use Rattle.tickets.specs.Lists.{in_order, lookup, replaced, without}
+use Rattle.tickets.specs.Tickets.{inside}
+use Rattle.tickets.specs.Lists.{in_order, sound, lookup, replaced, without}
 use Rattle.tickets.proofs.Ordered.{led}
 
 pub lookup_here : (n : ℕ) (t : Ticket) (ts : List Ticket) → t.number ≡ n → lookup n (t ∷ ts) ≡ Some t
@@ -12,27 +12,8 @@ lookup_here n t ts h = cond-true (eqb t.number n) (Some t) (lookup n ts) (eq-eqb
 pub lookup_later : (n : ℕ) (t : Ticket) (ts : List Ticket) → (t.number ≢ n) → lookup n (t ∷ ts) ≡ lookup n ts
 lookup_later n t ts h = cond-false (eqb t.number n) (Some t) (lookup n ts) (ne_eqb t.number n h)
 
--- the first place of a number holds the ticket that is found
-pub lookup_at : (n : ℕ) (ts : List Ticket) (k : ℕ) → k < length ts → (get_or ts k blank).number ≡ n → ((j : ℕ) → j < k → (get_or ts j blank).number ≡ n → ⊥) → lookup n ts ≡ Some (get_or ts k blank)
-lookup_at n [] k h e first = absurd (omega arith)
-lookup_at n (t ∷ ts) zero h e first = lookup_here n t ts e
-lookup_at n (t ∷ ts) (suc k) h e first = lookup_later n t ts (first 0 (omega arith)) ∙ lookup_at n ts k (omega arith) e (λ j l. first (suc j) (omega arith))
-
--- where no place is of the number, none is found
-pub lookup_nowhere : (n : ℕ) (ts : List Ticket) → ((k : ℕ) → k < length ts → (get_or ts k blank).number ≡ n → ⊥) → lookup n ts ≡ None
-lookup_nowhere n [] h = refl
-lookup_nowhere n (t ∷ ts) h = lookup_later n t ts (h 0 (omega arith)) ∙ lookup_nowhere n ts (λ k l. h (suc k) (omega arith))
-
--- a ticket that is found has the number
-pub lookup_number : (n : ℕ) (ts : List Ticket) (t : Ticket) → lookup n ts ≡ Some t → t.number ≡ n
-lookup_number n [] t h = let z : ◌≡◌ {A = ℕ} 0 1 = cc in absurd (omega arith)
-lookup_number n (u ∷ us) t h = elim (cases_eq u.number n) [
-  | inl e ↦ let same : u ≡ t = cc (lookup_here n u us e, h) in subst (λ (x : Ticket). x.number ≡ n) same e
-  | inr d ↦ lookup_number n us t (sym (lookup_later n u us d) ∙ h)
-]
-
--- and is inside its limits
-pub lookup_inside : (low last n : ℕ) (ts : List Ticket) (t : Ticket) → in_order low last ts ≡ true → lookup n ts ≡ Some t → inside t ≡ true
+-- a ticket that is found is inside its limits
+lookup_inside : (low last n : ℕ) (ts : List Ticket) (t : Ticket) → in_order low last ts ≡ true → lookup n ts ≡ Some t → inside t ≡ true
 lookup_inside low last n [] t o h = let z : ◌≡◌ {A = ℕ} 0 1 = cc in absurd (omega arith)
 lookup_inside low last n (u ∷ us) t o h =
     let l = led low last u us o in
@@ -75,3 +56,15 @@ lookup-without n m (u ∷ us) h =
           ap (lookup n) (cond-true (not (eqb u.number m)) (u ∷ without m us) (without m us) (ap not (ne_eqb u.number m d)))
           ∙ same_first n u (without m us) us r
     ]
+
+same_found : (n : ℕ) (ts : List Ticket) → find (λ (t : Ticket). eqb t.number n) ts ≡ lookup n ts
+same_found n [] = refl
+same_found n (t ∷ ts) = ap (cond (eqb t.number n) (Some t)) (same_found n ts)
+
+-- the first ticket of a number is the one of it
+pub lookup_found : (n : ℕ) (ts : List Ticket) (r : Option Ticket) → r ≡ find (λ (t : Ticket). eqb t.number n) ts → r ≡ lookup n ts
+lookup_found n ts r e = e ∙ same_found n ts
+
+pub found_inside : (used n : ℕ) (ts : List Ticket) (t : Ticket) → sound used ts ≡ true → Some t ≡ lookup n ts → inside t ≡ true
+unfolding sound
+found_inside used n ts t s e = lookup_inside 0 used n ts t s (sym e)

@@ -1,4 +1,3 @@
 pub mod Tickets
 pub mod Lists
-pub mod Places
 pub mod Tables

@@ -1,5 +1,5 @@
 -- Lists of tickets by number.
-use Rattle.std.specs.Prelude.{ℕ, Bool, cond, not, ◌&&◌, List, [], ◌∷◌, map, length, Some, None, sum_by, filter, Option, ◌==◌, nat_le, nat_lt}
+use Rattle.std.specs.Prelude.{◌≡◌, ◌≢◌, ℕ, Bool, true, cond, not, ◌&&◌, List, [], ◌∷◌, map, length, Some, None, sum_by, filter, Option, ◌==◌, nat_le, nat_lt}
 use Rattle.tickets.specs.declared.ticket.Ticket.{Ticket}
 use Rattle.tickets.specs.Tickets.{inside, reduced}
 
@@ -24,6 +24,18 @@ room ts used = nat_lt (length ts) 32 && nat_lt used 9999
 abbrev pub lookup : ℕ → List Ticket → Option Ticket
 lookup n [] = None
 lookup n (t ∷ ts) = cond (t.number == n) (Some t) (lookup n ts)
+
+-- a ticket that is found has the number
+abbrev pub HasNumber : ℕ → Option Ticket → Type 0
+HasNumber number found = (t : Ticket) → found ≡ Some t → t.number ≡ number
+
+-- and is inside its limits
+abbrev pub IsInside : Option Ticket → Type 0
+IsInside found = (t : Ticket) → found ≡ Some t → inside t ≡ true
+
+-- every other number is found as before
+abbrev pub OthersStay : ℕ → List Ticket → List Ticket → Type 0
+OthersStay number old new = (n : ℕ) → n ≢ number → lookup n new ≡ lookup n old
 
 -- t takes the place of the ticket of its number, and every other ticket stays as it is
 abbrev pub replaced : Ticket → List Ticket → List Ticket

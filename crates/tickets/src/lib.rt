@@ -2,6 +2,6 @@
 
 #![tactic(auto)]
 
-mod places;
+mod by_number;
 pub mod table;
 pub mod ticket;

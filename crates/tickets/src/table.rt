@@ -1,19 +1,18 @@
-// The live tickets of an account by rising number, in the first places of a fixed array, and the last number given.
-ghost use Rattle.std.specs.Prelude.{◌≡◌, ◌≤◌, true, length, take};
+// The live tickets of an account by rising number, in fixed memory, and the last number given.
+ghost use Rattle.std.specs.Prelude.{◌≡◌, ◌≤◌, true};
+ghost use Rattle.fixed.specs.Items.{items};
 ghost use Rattle.tickets.specs.Lists.{sound};
 
 use crate::ticket::Ticket;
+use fixed::FixedList;
 use limits::LIVE_TICKETS;
 
 mod methods;
 
 #[derive(Clone, Copy)]
 pub struct Table {
-    tickets: [Ticket; LIVE_TICKETS],
-    count: usize,
+    tickets: FixedList<Ticket, LIVE_TICKETS>,
     used: u16,
-    ghost long: { length tickets ≡ 32 },
-    ghost within: { count ≤ 32 },
     ghost given: { used ≤ 9999 },
-    ghost sound: { sound used (take count tickets) ≡ true },
+    ghost sound: { sound used (items tickets) ≡ true },
 }

@@ -26,18 +26,32 @@ impl TicketState {
     fn moved(self, level: Option<u32>) -> TicketState
         ensures { result ≡ moved level self }
     {
-        match (self, level) {
-            (TicketState::Pending { order, expiry, .. }, Some(level)) => TicketState::Pending {
+        match self {
+            TicketState::Pending {
                 order,
-                level,
+                level: old,
+                expiry,
+            } => TicketState::Pending {
+                order,
+                level: level.unwrap_or(old),
                 expiry,
             },
-            (TicketState::Pending { .. }, None) => self,
-            (TicketState::Position { .. }, _) => self,
+            TicketState::Position { .. } => self,
         }
     }
 }
 
+// What a ticket is about, apart from its number, inside the limits by its type.
+#[derive(Clone, Copy)]
+pub struct TicketDetails {
+    pub instrument: u8,
+    pub volume: u32,
+    pub protection: Protection,
+    pub state: TicketState,
+    ghost inside: { entry_ok instrument volume protection state ≡ true },
+}
+
+// Its details with a number, but field by field: no invariant keeps a ticket inside its limits, since `modified` takes any level and would have to ask for one inside.
 #[derive(Clone, Copy)]
 pub struct Ticket {
     pub number: u16,
@@ -48,38 +62,26 @@ pub struct Ticket {
 }
 
 impl Ticket {
-    pub fn new(
-        number: u16,
-        instrument: u8,
-        volume: u32,
-        protection: Protection,
-        state: TicketState,
-    ) -> Ticket
+    pub fn new(number: u16, details: TicketDetails) -> Ticket
         requires number { (1 ≤ number) × (number ≤ 9999) }
-        requires inside { entry_ok instrument volume protection state ≡ true }
-        ensures value { result ≡ ticket_made number instrument volume protection state }
+        ensures value { result ≡ ticket_made number details.instrument details.volume details.protection details.state }
         ensures inside { inside result ≡ true }
-        ensures small { volume ≤ 10000 }
+        ensures small { details.volume ≤ 10000 }
     {
         Ticket {
             number,
-            instrument,
-            volume,
-            protection,
-            state,
+            instrument: details.instrument,
+            volume: details.volume,
+            protection: details.protection,
+            state: details.state,
         }
     }
 
     // With another protection and, of an order, another level where one is given; inside its limits where these are.
+    #[tactic(auto, using(crate::proofs::Limits::modified_inside))]
     pub fn modified(self, level: Option<u32>, protection: Protection) -> Ticket
         ensures value { result ≡ modified level protection self }
         ensures inside { inside self ≡ true → optionally price_ok level ≡ true → protection_ok protection ≡ true → inside result ≡ true }
-    {
-        self.with_levels(level, protection)
-    }
-
-    fn with_levels(self, level: Option<u32>, protection: Protection) -> Ticket
-        ensures { result ≡ modified level protection self }
     {
         Ticket {
             protection,
@@ -88,10 +90,11 @@ impl Ticket {
         }
     }
 
-    // With that much less volume.
+    // With that much less volume, inside its limits as it was.
     pub fn reduced(self, volume: u32) -> Ticket
         requires { volume < self.volume }
-        ensures { result ≡ reduced volume self }
+        ensures value { result ≡ reduced volume self }
+        ensures inside { inside self ≡ true → inside result ≡ true }
     {
         Ticket {
             volume: self.volume - volume,

@@ -1,9 +1,7 @@
 // What an account answers.
-ghost use Rattle.std.specs.Prelude.{◌≡◌, ◌≤◌, true, length, Some, unsigned_abs};
+ghost use Rattle.std.specs.Prelude.{◌≡◌, ◌≤◌, true, length, unsigned_abs};
 ghost use Rattle.limits.specs.Bounds.{Leverage};
-ghost use Rattle.tickets.specs.declared.ticket.Ticket.{Ticket};
-ghost use Rattle.tickets.specs.Tickets.{inside};
-ghost use Rattle.tickets.specs.Lists.{room, sound, lookup};
+ghost use Rattle.tickets.specs.Lists.{HasNumber, IsInside, room, sound, lookup};
 ghost use Rattle.account.specs.Models.{no_dealings};
 ghost use Rattle.account.specs.Accounts.{model};
 
@@ -55,7 +53,7 @@ impl Account {
         self.paid_in
     }
 
-    // The live tickets, by rising number.
+    // The live tickets, by rising number, with the bound that a slice's type does not have.
     pub fn tickets(&self) -> &[Ticket]
         ensures value { result.now ≡ (model self.now).tickets }
         ensures few { length result.now ≤ 32 }
@@ -64,11 +62,11 @@ impl Account {
         self.table.tickets()
     }
 
-    // The ticket of a number, where it is live.
+    // The ticket of a number, where it is live, with what its type does not say, as `Table::ticket` promises it.
     pub fn ticket(&self, number: u16) -> Option<Ticket>
         ensures value { result ≡ lookup number (model self.now).tickets }
-        ensures number { (t : Ticket) → result ≡ Some t → t.number ≡ number }
-        ensures inside { (t : Ticket) → result ≡ Some t → inside t ≡ true }
+        ensures number { HasNumber number result }
+        ensures inside { IsInside result }
     {
         self.table.ticket(number)
     }
