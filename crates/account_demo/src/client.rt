@@ -7,43 +7,73 @@ use account::account::Account;
 use terms::order::OrderType;
 use terms::protection::{NO_PROTECTION, Protection};
 use terms::side::Side;
-use tickets::ticket::TicketState;
+use tickets::ticket::{TicketDetails, TicketState};
 
 const PROTECTED: Protection = Protection {
     stop_loss: Some(13_300),
     take_profit: Some(13_700),
 };
 
-const BOUGHT: TicketState = TicketState::Position {
-    side: Side::Buy,
-    price: 13_502,
+const BOUGHT: TicketDetails = TicketDetails {
+    instrument: 1,
+    volume: 50,
+    protection: PROTECTED,
+    state: TicketState::Position {
+        side: Side::Buy,
+        price: 13_502,
+    },
 };
 
-const SOLD: TicketState = TicketState::Position {
-    side: Side::Sell,
-    price: 13_500,
+const SOLD: TicketDetails = TicketDetails {
+    instrument: 1,
+    volume: 20,
+    protection: NO_PROTECTION,
+    state: TicketState::Position {
+        side: Side::Sell,
+        price: 13_500,
+    },
 };
 
-const BOUGHT_INDIRECT: TicketState = TicketState::Position {
-    side: Side::Buy,
-    price: 8_100,
+const BOUGHT_INDIRECT: TicketDetails = TicketDetails {
+    instrument: 2,
+    volume: 1,
+    protection: NO_PROTECTION,
+    state: TicketState::Position {
+        side: Side::Buy,
+        price: 8_100,
+    },
 };
 
-const SOLD_SHARE: TicketState = TicketState::Position {
-    side: Side::Sell,
-    price: 25_000,
+const SOLD_SHARE: TicketDetails = TicketDetails {
+    instrument: 3,
+    volume: 5,
+    protection: NO_PROTECTION,
+    state: TicketState::Position {
+        side: Side::Sell,
+        price: 25_000,
+    },
 };
 
-const TO_BUY: TicketState = TicketState::Pending {
-    order: OrderType::BuyStop,
-    level: 13_540,
-    expiry: Some(86_400),
+const TO_BUY: TicketDetails = TicketDetails {
+    instrument: 1,
+    volume: 10,
+    protection: NO_PROTECTION,
+    state: TicketState::Pending {
+        order: OrderType::BuyStop,
+        level: 13_540,
+        expiry: Some(86_400),
+    },
 };
 
-const TO_BUY_INDIRECT: TicketState = TicketState::Pending {
-    order: OrderType::BuyLimit,
-    level: 8_050,
-    expiry: None,
+const TO_BUY_INDIRECT: TicketDetails = TicketDetails {
+    instrument: 2,
+    volume: 3,
+    protection: NO_PROTECTION,
+    state: TicketState::Pending {
+        order: OrderType::BuyLimit,
+        level: 8_050,
+        expiry: None,
+    },
 };
 
 // 100,000 cents paid in at leverage 100 and stop-out level 60, and two positions.
@@ -52,8 +82,8 @@ fn newcomer() -> Account
 {
     let mut account = Account::new(100, 60);
     account.pay_in(100_000);
-    let _ = account.add(2, 1, NO_PROTECTION, BOUGHT_INDIRECT);
-    let _ = account.add(1, 50, PROTECTED, BOUGHT);
+    let _ = account.add(BOUGHT_INDIRECT);
+    let _ = account.add(BOUGHT);
     account
 }
 
@@ -62,9 +92,9 @@ pub fn client() -> Account
     ensures { model result ≡ client }
 {
     let mut account = newcomer();
-    let _ = account.add(1, 20, NO_PROTECTION, SOLD);
-    let _ = account.add(3, 5, NO_PROTECTION, SOLD_SHARE);
-    let _ = account.add(1, 10, NO_PROTECTION, TO_BUY);
-    let _ = account.add(2, 3, NO_PROTECTION, TO_BUY_INDIRECT);
+    let _ = account.add(SOLD);
+    let _ = account.add(SOLD_SHARE);
+    let _ = account.add(TO_BUY);
+    let _ = account.add(TO_BUY_INDIRECT);
     account
 }

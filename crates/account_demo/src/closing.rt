@@ -1,33 +1,20 @@
 // The positions that would be closed first, were the account stopped out now.
 ghost use Rattle.std.specs.Prelude.{◌≡◌};
 ghost use Rattle.positions.specs.Held.{held};
-ghost use Rattle.rules.specs.Closing.{Told};
-ghost use Rattle.rules.specs.Named.{at};
 ghost use Rattle.account_demo.specs.Named.{ticket_named};
 
 use positions::positions::Positions;
-use rules::candidate::Candidate;
 use rules::closing::{ClosingRule, EarliestFirst, WorstFirst};
 use std::fmt;
 
-// The ticket of the candidate that a rule names.
-fn ticket_of<C: ClosingRule>(rule: &C, candidates: &[Candidate]) -> u16
-    requires { Told candidates.now }
-    ensures { result ≡ (at candidates.now (C.ClosingRule.picks rule.now candidates.now)).ticket }
-{
-    candidates[rule.pick(candidates)].ticket
-}
-
 // The ticket of the position that a rule names, where there is a position.
 fn ticket_named<C: ClosingRule>(rule: &C, positions: &Positions) -> Option<u16>
-    ensures { result ≡ ticket_named (C.ClosingRule.picks rule.now) (held positions.now) }
+    ensures { result ≡ ticket_named (C.picks rule.now) (held positions.now) }
 {
-    let count = positions.len();
-    if count == 0 {
+    if positions.len() == 0 {
         return None;
     }
-    let candidates = positions.candidates();
-    Some(ticket_of(rule, &candidates[0..count]))
+    Some(rule.named(positions.candidates().as_slice()).ticket)
 }
 
 #[derive(Clone, Copy)]

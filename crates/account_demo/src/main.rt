@@ -4,19 +4,18 @@
 
 mod client;
 mod closing;
-mod fills;
 mod quotes;
 
 use client::client;
 use closing::ClosingTable;
-use fills::FillTable;
+use fill_table::fills::FillTable;
 use joined::unit::unit_kinds;
 use quotes::{QUOTES, listed_market};
 use statement::orders::OrderTable;
 use statement::statement::Statement;
 use std::io;
 use terms::quote::Prices;
-use valuation::worth::open_positions;
+use valuation::worth::Valuation;
 
 fn main(rt: HostRuntime) -> io::Result<()> {
     let account = client();
@@ -34,7 +33,7 @@ fn main(rt: HostRuntime) -> io::Result<()> {
         println!(rt; "Quote of instrument {instrument}: {bid}/{ask}")?;
         println!(rt; "{}", Statement { account, market })?;
     }
-    let positions = open_positions(&unit_kinds(), &market, &account);
+    let positions = Valuation::new(&unit_kinds(), &market).open_positions(&account);
     println!(rt; "{}", ClosingTable { positions })?;
     print!(rt; "{}", FillTable)
 }

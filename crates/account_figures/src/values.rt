@@ -1,4 +1,5 @@
 // What an account is worth: 100,000 paid in at leverage 100, a buy of 50 at 13,502, and a sell of 20 at 13,500.
+// Each figure is a function of its own, since its contract states its numbers as a theorem.
 ghost use Rattle.std.specs.Prelude.{◌≡◌, pos, negsuc};
 ghost use Rattle.joined.specs.UnitKinds.{unit_pays, unit_needs};
 ghost use Rattle.account.specs.Accounts.{model};
@@ -14,8 +15,8 @@ use terms::contract::Contract;
 use terms::protection::NO_PROTECTION;
 use terms::quote::Prices;
 use terms::side::Side;
-use tickets::ticket::TicketState;
-use valuation::worth::{equity, margin, open_positions};
+use tickets::ticket::{TicketDetails, TicketState};
+use valuation::worth::Valuation;
 
 // A market on which instrument 1 is a direct one of size 10 and hedge share 50.
 fn quoted(bid: u32, ask: u32) -> Market
@@ -43,11 +44,16 @@ fn buyer() -> Account
 {
     let mut account = Account::new(100, 60);
     account.pay_in(100_000);
-    let bought = TicketState::Position {
-        side: Side::Buy,
-        price: 13_502,
+    let bought = TicketDetails {
+        instrument: 1,
+        volume: 50,
+        protection: NO_PROTECTION,
+        state: TicketState::Position {
+            side: Side::Buy,
+            price: 13_502,
+        },
     };
-    let _ = account.add(1, 50, NO_PROTECTION, bought);
+    let _ = account.add(bought);
     account
 }
 
@@ -55,11 +61,16 @@ fn hedger() -> Account
     ensures { model result ≡ hedger }
 {
     let mut account = buyer();
-    let sold = TicketState::Position {
-        side: Side::Sell,
-        price: 13_500,
+    let sold = TicketDetails {
+        instrument: 1,
+        volume: 20,
+        protection: NO_PROTECTION,
+        state: TicketState::Position {
+            side: Side::Sell,
+            price: 13_500,
+        },
     };
-    let _ = account.add(1, 20, NO_PROTECTION, sold);
+    let _ = account.add(sold);
     account
 }
 
@@ -67,33 +78,35 @@ pub fn margin_of_a_buy() -> u64
     ensures answered { result ≡ 67510 }
     ensures defined { margin unit_pays unit_needs (quoted 13500 13502) buyer ≡ 67510 }
 {
-    margin(&unit_kinds(), &quoted(13_500, 13_502), &buyer())
+    Valuation::new(&unit_kinds(), &quoted(13_500, 13_502)).margin(&buyer())
 }
 
 pub fn floating_of_a_buy() -> i64
     ensures answered { result ≡ negsuc 999 }
     ensures defined { floating (open_positions unit_pays unit_needs (quoted 13500 13502) buyer) ≡ negsuc 999 }
 {
-    open_positions(&unit_kinds(), &quoted(13_500, 13_502), &buyer()).floating()
+    let market = quoted(13_500, 13_502);
+    let positions = Valuation::new(&unit_kinds(), &market).open_positions(&buyer());
+    positions.floating()
 }
 
 pub fn margin_with_a_hedge() -> u64
     ensures answered { result ≡ 81010 }
     ensures defined { margin unit_pays unit_needs (quoted 13500 13502) hedger ≡ 81010 }
 {
-    margin(&unit_kinds(), &quoted(13_500, 13_502), &hedger())
+    Valuation::new(&unit_kinds(), &quoted(13_500, 13_502)).margin(&hedger())
 }
 
 pub fn equity_at_13384() -> i64
     ensures answered { result ≡ pos 41000 }
     ensures defined { equity unit_pays unit_needs (quoted 13384 13386) buyer ≡ pos 41000 }
 {
-    equity(&unit_kinds(), &quoted(13_384, 13_386), &buyer())
+    Valuation::new(&unit_kinds(), &quoted(13_384, 13_386)).equity(&buyer())
 }
 
 pub fn equity_at_13383() -> i64
     ensures answered { result ≡ pos 40500 }
     ensures defined { equity unit_pays unit_needs (quoted 13383 13385) buyer ≡ pos 40500 }
 {
-    equity(&unit_kinds(), &quoted(13_383, 13_385), &buyer())
+    Valuation::new(&unit_kinds(), &quoted(13_383, 13_385)).equity(&buyer())
 }

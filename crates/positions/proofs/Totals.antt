@@ -1,10 +1,10 @@
 -- Sums over the first positions of a list, one position on.
-use Rattle.std.proofs.Common.{◌≡◌, ℕ, ◌+◌, ◌<◌, Bool, true, false, cond, List, [], ◌∷◌, length, get_or, take, ℤ, pos, ◌+ℤ◌, sum_by, filter, ap, ◌∙◌, arith}
+use Rattle.std.proofs.Common.{◌≡◌, ℕ, zero, suc, ◌+◌, ◌-◌, ◌<◌, ◌≤◌, Bool, true, false, cond, List, [], ◌∷◌, length, get_or, take, ℤ, pos, ◌+ℤ◌, sum_by, filter, sym, ap, ◌∙◌, arith}
 use Rattle.std.proofs.lemmas.List.Elements.{filter_more}
 use Rattle.std.proofs.lemmas.List.Sums.{fold_more, sum_by-append}
 use Rattle.terms.specs.declared.side.Side.{Side}
 use Rattle.positions.specs.declared.position.OpenPosition.{OpenPosition}
-use Rattle.positions.specs.Margins.{is_on, side_margin}
+use Rattle.positions.specs.Margins.{is_on, side_margin, over_instruments}
 use Rattle.positions.specs.Positions.{blank, floating}
 
 abbrev margin : OpenPosition → ℕ
@@ -30,3 +30,11 @@ module _ (i : ℕ) (s : Side) (ps : List OpenPosition) (k : ℕ) (l : k < length
 -- one position more adds its result
 pub floating_more : (ps : List OpenPosition) (k : ℕ) → k < length ps → floating (take (k + 1) ps) ≡ floating (take k ps) +ℤ (get_or ps k blank).result
 floating_more ps k l = fold_more (λ (sum : ℤ) (p : OpenPosition). sum +ℤ p.result) (pos 0) ps k blank l
+
+-- one instrument more adds what it needs
+pub over_more : (f : ℕ → ℕ) (n : ℕ) → 1 ≤ n → over_instruments f (n + 1 - 1) ≡ over_instruments f (n - 1) + f n
+over_more f zero h = absurd (omega arith)
+over_more f (suc n) h =
+    let up : suc n + 1 - 1 ≡ suc n = omega arith in
+    let down : suc n - 1 ≡ n = omega arith in
+    ap (over_instruments f) up ∙ ap (λ (k : ℕ). over_instruments f k + f (suc n)) (sym down)

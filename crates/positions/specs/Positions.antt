@@ -11,10 +11,6 @@ ticket_numbers ps = map (λ (p : OpenPosition). p.ticket) ps
 abbrev pub candidate : OpenPosition → Candidate
 candidate p = record { ticket = p.ticket; result = p.result; margin = p.margin }
 
--- no position
-abbrev pub no_candidate : Candidate
-no_candidate = record { ticket = 0; result = pos 0; margin = 0 }
-
 abbrev pub candidates : List OpenPosition → List Candidate
 candidates ps = map candidate ps
 

@@ -2,7 +2,5 @@
 
 #![tactic(auto)]
 
-mod lists;
-mod margins;
 pub mod position;
 pub mod positions;

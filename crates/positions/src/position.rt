@@ -1,5 +1,5 @@
 // An open position at present prices.
-ghost use Rattle.std.specs.Prelude.{◌≡◌, nat_lt};
+ghost use Rattle.std.specs.Prelude.{◌≡◌};
 ghost use Rattle.positions.specs.Positions.{candidate};
 ghost use Rattle.positions.specs.Margins.{is_on};
 
@@ -17,34 +17,23 @@ pub struct OpenPosition {
 }
 
 impl OpenPosition {
-    // The position as a closing rule is told of it.
-    pub fn candidate(self) -> Candidate
-        ensures { result ≡ candidate self }
-    {
-        Candidate {
-            ticket: self.ticket,
-            result: self.result,
-            margin: self.margin,
-        }
-    }
-
     // Whether the position is one of that instrument and side.
     pub fn is_on(self, instrument: u8, side: Side) -> bool
         ensures { result ≡ is_on instrument side self }
     {
-        let on_side = match (self.side, side) {
-            (Side::Buy, Side::Buy) => true,
-            (Side::Buy, Side::Sell) => false,
-            (Side::Sell, Side::Buy) => false,
-            (Side::Sell, Side::Sell) => true,
-        };
-        self.instrument == instrument && on_side
+        self.instrument == instrument && self.side == side
     }
+}
 
-    // Whether the position needs less margin than another.
-    pub fn is_lighter(self, other: OpenPosition) -> bool
-        ensures { result ≡ nat_lt self.margin other.margin }
-    {
-        self.margin < other.margin
+// The position as a closing rule is told of it.
+impl From<OpenPosition> for Candidate {
+    ghost from_gives = { λ position told. told ≡ candidate position };
+
+    fn from(position: OpenPosition) -> Candidate {
+        Candidate {
+            ticket: position.ticket,
+            result: position.result,
+            margin: position.margin,
+        }
     }
 }

@@ -1,7 +1,6 @@
 // The orders of an account that wait for their levels.
 use account::account::Account;
 use std::fmt;
-use terms::order::OrderType;
 use tickets::ticket::TicketState;
 
 #[derive(Clone, Copy)]
@@ -14,22 +13,12 @@ impl fmt::Display for OrderTable {
         writeln!(f, "Orders waiting")?;
         writeln!(f, "  ticket  instrument  type        volume   level")?;
         for ticket in self.account.tickets() {
-            match ticket.state {
-                TicketState::Pending { order, level, .. } => writeln!(
+            if let TicketState::Pending { order, level, .. } = ticket.state {
+                writeln!(
                     f,
                     "  {:>6}  {:>10}  {:<10}  {:>6}  {:>6}",
-                    ticket.number,
-                    ticket.instrument,
-                    match order {
-                        OrderType::BuyLimit => "buy limit",
-                        OrderType::BuyStop => "buy stop",
-                        OrderType::SellLimit => "sell limit",
-                        OrderType::SellStop => "sell stop",
-                    },
-                    ticket.volume,
-                    level
-                )?,
-                TicketState::Position { .. } => {}
+                    ticket.number, ticket.instrument, order, ticket.volume, level
+                )?;
             }
         }
         Ok(())

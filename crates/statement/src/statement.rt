@@ -3,10 +3,8 @@ use account::account::Account;
 use joined::unit::unit_kinds;
 use market::market::Market;
 use std::fmt;
-use terms::side::Side;
 use tickets::ticket::TicketState;
-use valuation::position::valued;
-use valuation::worth::{equity, free_margin, margin};
+use valuation::worth::Valuation;
 
 #[derive(Clone, Copy)]
 pub struct Statement {
@@ -17,40 +15,37 @@ pub struct Statement {
 impl fmt::Display for Statement {
     fn fmt<W: fmt::Write>(&self, f: &mut fmt::Formatter<W>) -> fmt::Result {
         let kinds = unit_kinds();
+        let valuation = Valuation::new(&kinds, &self.market);
         let leverage = self.account.leverage();
         writeln!(
             f,
             "  ticket  instrument  side  volume  opened   result  margin"
         )?;
         for ticket in self.account.tickets() {
-            match (
+            if let (TicketState::Position { side, price }, Some(position)) = (
                 ticket.state,
-                valued(&kinds, &self.market, leverage, *ticket),
+                valuation.position(leverage, *ticket),
             ) {
-                (TicketState::Position { side, price }, Some(position)) => writeln!(
+                writeln!(
                     f,
                     "  {:>6}  {:>10}  {:<4}  {:>6}  {:>6}  {:>7}  {:>6}",
                     ticket.number,
                     ticket.instrument,
-                    match side {
-                        Side::Buy => "buy",
-                        Side::Sell => "sell",
-                    },
+                    side,
                     ticket.volume,
                     price,
                     position.result,
                     position.margin
-                )?,
-                _ => {}
+                )?;
             }
         }
         writeln!(
             f,
             "  balance {}  equity {}  margin {}  free margin {}",
             self.account.balance(),
-            equity(&kinds, &self.market, &self.account),
-            margin(&kinds, &self.market, &self.account),
-            free_margin(&kinds, &self.market, &self.account)
+            valuation.equity(&self.account),
+            valuation.margin(&self.account),
+            valuation.free_margin(&self.account)
         )
     }
 }

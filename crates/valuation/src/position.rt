@@ -2,9 +2,10 @@
 ghost use Rattle.std.specs.Prelude.{◌≡◌};
 ghost use Rattle.valuation.specs.Valued.{result_now, own_margin, valued};
 
+use crate::worth::Valuation;
+use kinds::deal::{Deal, Holding};
 use kinds::kind::ContractKind;
 use market::instrument::Instrument;
-use market::market::Market;
 use positions::position::OpenPosition;
 use terms::side::Side;
 use tickets::ticket::{Ticket, TicketState};
@@ -17,51 +18,50 @@ pub fn result_now<K: ContractKind>(
     price: u32,
     volume: u32,
 ) -> i64
-    ensures { result ≡ result_now (K.ContractKind.pays kinds.now) row side price volume }
+    ensures { result ≡ result_now (K.pays kinds.now) row side price volume }
 {
     match (row.listing, row.quote()) {
         (Some(listing), Some(quote)) => {
-            kinds.payment(listing.contract, side, price, quote.closing(side), volume)
+            let deal = Deal {
+                side,
+                opened: price,
+                closed: quote.closing(side),
+                volume,
+            };
+            kinds.payment(listing.contract, deal)
         }
-        (Some(_), None) => 0,
-        (None, _) => 0,
+        _ => 0,
     }
 }
 
 // What margin a position needs by itself.
-pub fn own_margin<K: ContractKind>(
-    kinds: &K,
-    row: Instrument,
-    leverage: u32,
-    price: u32,
-    volume: u32,
-) -> u64
-    ensures { result ≡ own_margin (K.ContractKind.needs kinds.now) row leverage price volume }
+pub fn own_margin<K: ContractKind>(kinds: &K, row: Instrument, holding: Holding) -> u64
+    ensures { result ≡ own_margin (K.needs kinds.now) row holding.leverage holding.opened holding.volume }
 {
-    match row.listing {
-        Some(listing) => kinds.margin(listing.contract, leverage, price, volume),
-        None => 0,
-    }
+    row.listing
+        .map_or(0, |listing| kinds.margin(listing.contract, holding))
 }
 
-// A ticket at present prices, where it is a position.
-pub fn valued<K: ContractKind>(
-    kinds: &K,
-    market: &Market,
-    leverage: u32,
-    ticket: Ticket,
-) -> Option<OpenPosition>
-    ensures { result ≡ valued (K.ContractKind.pays kinds.now) (K.ContractKind.needs kinds.now) market.now leverage ticket }
-{
-    let row = market.instrument(ticket.instrument);
-    match ticket.state {
-        TicketState::Pending { .. } => None,
-        TicketState::Position { side, price } => Some(OpenPosition {
+impl<K: ContractKind> Valuation<'_, K> {
+    // A ticket at present prices, where it is a position.
+    pub fn position(self, leverage: u32, ticket: Ticket) -> Option<OpenPosition>
+        ensures { result ≡ valued (K.pays self.entry.kinds.now) (K.needs self.entry.kinds.now) self.entry.market.now leverage ticket }
+    {
+        let TicketState::Position { side, price } = ticket.state else {
+            return None;
+        };
+        let row = self.market.instrument(ticket.instrument);
+        let holding = Holding {
+            leverage,
+            opened: price,
+            volume: ticket.volume,
+        };
+        Some(OpenPosition {
             ticket: ticket.number,
             instrument: ticket.instrument,
             side,
-            result: result_now(kinds, row, side, price, ticket.volume),
-            margin: own_margin(kinds, row, leverage, price, ticket.volume),
-        }),
+            result: result_now(self.kinds, row, side, price, ticket.volume),
+            margin: own_margin(self.kinds, row, holding),
+        })
     }
 }

@@ -15,7 +15,7 @@ pub fn equity_with(account: &Account, positions: &Positions) -> i64
     account.balance() + positions.floating()
 }
 
-// Equity less margin.
+// Equity less margin. The cast is proved to keep the margin: `try_from` and `unwrap` would be longer and say no more.
 pub fn free_of(equity: i64, margin: u64) -> i64
     requires equity { unsigned_abs equity ≤ 13000000000000000 }
     requires margin { margin ≤ 1000000000000000 }

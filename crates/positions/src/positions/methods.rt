@@ -1,24 +1,29 @@
 // What is asked of an account's open positions.
-ghost use Rattle.std.specs.Prelude.{◌≡◌, ◌-◌, ◌<◌, ◌≤◌, [], ◌∷◌, ◌++◌, length, take, drop, replicate};
+ghost use Rattle.std.specs.Prelude.{◌≡◌, ◌<◌, ◌≤◌, [], ◌∷◌, ◌++◌, length};
 ghost use Rattle.rules.specs.Closing.{Told};
+ghost use Rattle.fixed.specs.Items.{items};
 ghost use Rattle.positions.specs.Held.{held};
-ghost use Rattle.positions.specs.Positions.{no_candidate, candidates, floating, Above, Heaviest};
-ghost use Rattle.positions.specs.Sizes.{Within, SizedOne};
-ghost use Rattle.positions.specs.Margins.{account_margin};
+ghost use Rattle.positions.specs.Positions.{candidates, floating, Above, Heaviest};
+ghost use Rattle.positions.specs.Sizes.{Within, SizedOne, Sized};
 
-use crate::lists::{candidate_list, largest_margin, put, sum_of_results};
-use crate::margins::account_margin;
 use crate::position::OpenPosition;
 use crate::positions::Positions;
+use fixed::FixedList;
 use limits::LIVE_TICKETS;
-use market::market::Market;
 use rules::candidate::Candidate;
 use terms::side::Side;
 
+// What a free place holds.
 const NO_POSITION: OpenPosition = OpenPosition {
     ticket: 0,
     instrument: 0,
     side: Side::Buy,
+    result: 0,
+    margin: 0,
+};
+
+const NO_CANDIDATE: Candidate = Candidate {
+    ticket: 0,
     result: 0,
     margin: 0,
 };
@@ -28,8 +33,7 @@ impl Positions {
         ensures { held result ≡ [] }
     {
         Positions {
-            positions: [NO_POSITION; LIVE_TICKETS],
-            count: 0,
+            list: FixedList::new(NO_POSITION),
         }
     }
 
@@ -40,53 +44,56 @@ impl Positions {
         requires sized { SizedOne position }
         ensures { held self.new ≡ held self.old ++ position ∷ [] }
     {
-        put(&mut self.positions, self.count, position);
-        self.count += 1;
+        self.list.push(position);
     }
 
-    // The positions as a slice.
-    fn held(&self) -> &[OpenPosition]
-        ensures { result.now ≡ held self.now }
+    // The positions as a slice, with what its type does not say.
+    pub(crate) fn held(&self) -> &[OpenPosition]
+        ensures value { result.now ≡ held self.now }
+        ensures few { length result.now ≤ 32 }
+        ensures sized { Sized result.now }
     {
-        &self.positions[0..self.count]
+        self.list.as_slice()
     }
 
     pub fn len(&self) -> usize
         ensures value { result ≡ length (held self.now) }
         ensures few { result ≤ 32 }
     {
-        self.held().len()
+        self.list.len()
     }
 
-    // The floating results together.
+    // The floating results together, by `for`: `sum` has no bound for signed numbers.
     pub fn floating(&self) -> i64
         ensures value { result ≡ floating (held self.now) }
         ensures bound { Within result 32000000000000 }
     {
-        sum_of_results(self.held())
+        let mut sum = 0i64;
+        for position in self.held() {
+            sum += position.result;
+        }
+        sum
     }
 
-    // The margin that the positions need together.
-    pub fn margin(&self, market: &Market) -> u64
-        ensures value { result ≡ account_margin market.now (held self.now) }
-        ensures bound { result ≤ 1000000000000000 }
+    // The list that a closing rule is told.
+    pub fn candidates(&self) -> FixedList<Candidate, LIVE_TICKETS>
+        ensures value { items result ≡ candidates (held self.now) }
+        ensures told { 0 < length (held self.now) → Told (items result) }
     {
-        account_margin(self.held(), market)
-    }
-
-    // The list for a closing rule in the first places, and blanks behind it.
-    pub fn candidates(&self) -> [Candidate; LIVE_TICKETS]
-        ensures value { take (length (held self.now)) result ≡ candidates (held self.now) }
-        ensures rest { drop (length (held self.now)) result ≡ replicate (32 - length (held self.now)) no_candidate }
-        ensures told { 0 < length (held self.now) → Told (take (length (held self.now)) result) }
-    {
-        candidate_list(self.held())
+        let mut list = FixedList::new(NO_CANDIDATE);
+        for &position in self.held() {
+            list.push(position.into());
+        }
+        list
     }
 
     // The ticket of a position of largest margin.
     pub fn heaviest(&self) -> Option<u16>
         ensures { Heaviest (held self.now) result }
     {
-        largest_margin(self.held())
+        self.held()
+            .iter()
+            .max_by_key(|position| position.margin)
+            .map(|position| position.ticket)
     }
 }

@@ -1,7 +1,7 @@
 use Rattle.std.proofs.Common.{◌≡◌, ◌*◌, take}
 use Rattle.positions.specs.Positions.{floating}
 use Rattle.positions.specs.Sizes.{Within}
-use Rattle.positions.proofs.lists.sum_of_results.Given as goal
+use Rattle.positions.proofs.positions.Positions.floating.Given as goal
 
 abbrev pub invariant-loop-position : goal.invariant-loop-position
-invariant-loop-position l = (l.sum ≡ floating (take l.position-index l.positions)) × Within l.sum (l.position-index * 1000000000000)
+invariant-loop-position l = (l.sum ≡ floating (take l.position-index l.position-items)) × Within l.sum (l.position-index * 1000000000000)

@@ -7,16 +7,16 @@ use Rattle.positions.specs.declared.position.OpenPosition.{OpenPosition}
 use Rattle.positions.specs.Held.{held}
 use Rattle.valuation.proofs.Gathered.{valued_number, gathered_few, gathered_above, gathered_more, gathered_all}
 use Rattle.valuation.proofs.Sizes.{valued_sized}
-use Rattle.valuation.proofs.gather.gather.Goals.{in-Some, in-None}
-use Rattle.valuation.proofs.gather.gather.Goals as goal
+use Rattle.valuation.proofs.worth.Valuation.gather.Goals.{in-Some, in_default}
+use Rattle.valuation.proofs.worth.Valuation.gather.Goals as goal
 
 pub push-requires : goal.push-requires
 push-requires g c =
-    let kinds = c.args.kinds.now in
+    let kinds = c.args.self.kinds.now in
     let met = g.met.K.ContractKind in
     let pays = g.K.ContractKind.pays kinds in
     let needs = g.K.ContractKind.needs kinds in
-    let market = c.args.market.now in
+    let market = c.args.self.market.now in
     let leverage = c.args.leverage in
     let ts = c.args.tickets.now in
     let used = c.requires.sound.0 in
@@ -36,17 +36,17 @@ push-requires g c =
 
 pub loop-ticket-preserved : goal.loop-ticket-preserved
 loop-ticket-preserved g c =
-    let pays = g.K.ContractKind.pays c.args.kinds.now in
-    let needs = g.K.ContractKind.needs c.args.kinds.now in
+    let pays = g.K.ContractKind.pays c.args.self.kinds.now in
+    let needs = g.K.ContractKind.needs c.args.self.kinds.now in
     let i = c.loop-ticket.ticket-index in
     let ps = held c.loop-ticket.positions in
-    let more = λ (o : Option OpenPosition). gathered_more pays needs c.args.market.now c.args.leverage c.args.tickets.now i ps o c.loop-ticket-test.true c.loop-ticket.invariant in
-    elim c.match-valued.branch [
+    let more = λ (o : Option OpenPosition). gathered_more pays needs c.args.self.market.now c.args.leverage c.args.tickets.now i ps o c.loop-ticket-test.true c.loop-ticket.invariant in
+    elim c.match-position.branch [
       | in-Some w ↦ rw w.positions-is (w.push.ensures ∙ more (Some w.in-Some.position) w.in-Some.ensures)
-      | in-None w ↦ rw w.positions-is (sym (append-nil ps) ∙ more None w.in-None.ensures)
+      | in_default w ↦ rw w.positions-is (sym (append-nil ps) ∙ more None w.in_default.ensures)
     ]
 
 pub returns : goal.returns
 returns g c =
-    let kinds = c.args.kinds.now in
-    gathered_all (g.K.ContractKind.pays kinds) (g.K.ContractKind.needs kinds) c.args.market.now c.args.leverage c.args.tickets.now c.loop-ticket.ticket-index (held c.loop-ticket.positions) c.loop-ticket-test.false c.loop-ticket.invariant
+    let kinds = c.args.self.kinds.now in
+    gathered_all (g.K.ContractKind.pays kinds) (g.K.ContractKind.needs kinds) c.args.self.market.now c.args.leverage c.args.tickets.now c.loop-ticket.ticket-index (held c.loop-ticket.positions) c.loop-ticket-test.false c.loop-ticket.invariant

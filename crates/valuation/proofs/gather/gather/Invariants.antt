@@ -1,8 +1,0 @@
-use Rattle.std.proofs.Common.{◌≡◌, take}
-use Rattle.positions.specs.Held.{held}
-use Rattle.valuation.specs.Valuation.{positions_of}
-use Rattle.valuation.proofs.gather.gather.Given as goal
-
--- the positions so far are those of the tickets so far
-abbrev pub invariant-loop-ticket : goal.invariant-loop-ticket
-invariant-loop-ticket g l = held l.positions ≡ positions_of (g.K.ContractKind.pays l.kinds) (g.K.ContractKind.needs l.kinds) l.market l.leverage (take l.ticket-index l.tickets)
