@@ -2,16 +2,51 @@
 use account::account::Account;
 use terms::protection::{NO_PROTECTION, Protection};
 use terms::side::Side;
-use tickets::ticket::TicketState;
+use tickets::ticket::{TicketDetails, TicketState};
 
 const PROTECTED: Protection = Protection {
     stop_loss: Some(1_500),
     take_profit: Some(2_500),
 };
 
-const BOUGHT: TicketState = TicketState::Position {
+const AT_2000: TicketState = TicketState::Position {
     side: Side::Buy,
     price: 2_000,
+};
+
+const BOUGHT: TicketDetails = TicketDetails {
+    instrument: 1,
+    volume: 10,
+    protection: NO_PROTECTION,
+    state: AT_2000,
+};
+
+const BOUGHT_ON_2: TicketDetails = TicketDetails {
+    instrument: 2,
+    volume: 20,
+    protection: NO_PROTECTION,
+    state: AT_2000,
+};
+
+const BOUGHT_ON_3: TicketDetails = TicketDetails {
+    instrument: 3,
+    volume: 30,
+    protection: NO_PROTECTION,
+    state: AT_2000,
+};
+
+const BOUGHT_ON_8: TicketDetails = TicketDetails {
+    instrument: 8,
+    volume: 10,
+    protection: NO_PROTECTION,
+    state: AT_2000,
+};
+
+const LARGEST: TicketDetails = TicketDetails {
+    instrument: 8,
+    volume: 10_000,
+    protection: NO_PROTECTION,
+    state: AT_2000,
 };
 
 #[test]
@@ -19,7 +54,7 @@ fn numbers_rise_and_places_come_back(rt: HostRuntime) {
     let mut account = Account::new(100, 50);
     for _ in 0..40 {
         if account.has_room() {
-            let _ = account.add(1, 10, NO_PROTECTION, BOUGHT);
+            let _ = account.add(BOUGHT);
         }
     }
     assert_eq!(rt; account.tickets().len(), 32);
@@ -27,7 +62,7 @@ fn numbers_rise_and_places_come_back(rt: HostRuntime) {
     account.remove(7);
     assert_eq!(rt; account.tickets().len(), 31);
     if account.has_room() {
-        assert_eq!(rt; account.add(1, 10, NO_PROTECTION, BOUGHT), 33);
+        assert_eq!(rt; account.add(BOUGHT), 33);
     }
     assert_eq!(rt; account.tickets().len(), 32);
     assert!(rt; !account.has_room());
@@ -41,7 +76,7 @@ fn numbers_end(rt: HostRuntime) {
     let mut account = Account::new(1, 0);
     for number in 1..10_000u16 {
         if account.has_room() {
-            assert_eq!(rt; account.add(8, 10_000, NO_PROTECTION, BOUGHT), number);
+            assert_eq!(rt; account.add(LARGEST), number);
         }
         account.remove(number);
     }
@@ -54,12 +89,9 @@ fn numbers_end(rt: HostRuntime) {
 fn parts_close(rt: HostRuntime) {
     let mut account = Account::new(1, 0);
     account.pay_in(1_000);
-    let number = account.add(8, 10, NO_PROTECTION, BOUGHT);
+    let number = account.add(BOUGHT_ON_8);
     account.close(number, 4, -700);
-    match account.ticket(number) {
-        Some(ticket) => assert_eq!(rt; ticket.volume, 6),
-        None => assert!(rt; false),
-    }
+    assert_eq!(rt; account.ticket(number).map(|t| t.volume), Some(6));
     assert_eq!(rt; account.balance(), 300);
     assert_eq!(rt; account.paid_in(), 1_000);
     account.close(number, 6, 50);
@@ -73,21 +105,17 @@ fn parts_close(rt: HostRuntime) {
 #[test]
 fn one_ticket_changes(rt: HostRuntime) {
     let mut account = Account::new(1, 0);
-    let _ = account.add(1, 10, NO_PROTECTION, BOUGHT);
-    let _ = account.add(2, 20, NO_PROTECTION, BOUGHT);
-    let _ = account.add(3, 30, NO_PROTECTION, BOUGHT);
+    let _ = account.add(BOUGHT);
+    let _ = account.add(BOUGHT_ON_2);
+    let _ = account.add(BOUGHT_ON_3);
     match account.ticket(2) {
         Some(ticket) => account.change(ticket.modified(None, PROTECTED)),
         None => assert!(rt; false),
     }
     for (number, volume, stop_loss) in [(1, 10, None), (2, 20, Some(1_500)), (3, 30, None)] {
-        match account.ticket(number) {
-            Some(ticket) => {
-                assert_eq!(rt; ticket.volume, volume);
-                assert_eq!(rt; ticket.protection.stop_loss, stop_loss);
-            }
-            None => assert!(rt; false),
-        }
+        let ticket = account.ticket(number);
+        assert_eq!(rt; ticket.map(|t| t.volume), Some(volume));
+        assert_eq!(rt; ticket.map(|t| t.protection.stop_loss), Some(stop_loss));
     }
 }
 

@@ -7,8 +7,69 @@ use terms::contract::Contract;
 use terms::protection::NO_PROTECTION;
 use terms::quote::Prices;
 use terms::side::Side;
-use tickets::ticket::TicketState;
-use valuation::worth::{equity, free_margin, heaviest, margin};
+use tickets::ticket::{TicketDetails, TicketState};
+use valuation::worth::Valuation;
+
+const BOUGHT: TicketDetails = TicketDetails {
+    instrument: 1,
+    volume: 3,
+    protection: NO_PROTECTION,
+    state: TicketState::Position {
+        side: Side::Buy,
+        price: 1_001,
+    },
+};
+
+const SOLD: TicketDetails = TicketDetails {
+    instrument: 1,
+    volume: 1,
+    protection: NO_PROTECTION,
+    state: TicketState::Position {
+        side: Side::Sell,
+        price: 1_003,
+    },
+};
+
+// Opened at the prices that they are valued at.
+const BOUGHT_EVEN: TicketDetails = TicketDetails {
+    instrument: 1,
+    volume: 1,
+    protection: NO_PROTECTION,
+    state: TicketState::Position {
+        side: Side::Buy,
+        price: 1_000,
+    },
+};
+
+const SOLD_EVEN: TicketDetails = TicketDetails {
+    instrument: 1,
+    volume: 3,
+    protection: NO_PROTECTION,
+    state: TicketState::Position {
+        side: Side::Sell,
+        price: 1_000,
+    },
+};
+
+const BOUGHT_ON_8: TicketDetails = TicketDetails {
+    instrument: 8,
+    volume: 5,
+    protection: NO_PROTECTION,
+    state: TicketState::Position {
+        side: Side::Buy,
+        price: 1_000,
+    },
+};
+
+const SOLD_ON_8: TicketDetails = TicketDetails {
+    instrument: 8,
+    volume: 5,
+    protection: NO_PROTECTION,
+    state: TicketState::Position {
+        side: Side::Sell,
+        price: 1_000,
+    },
+};
 
 // Hedge share of instrument 1, its bid and ask; then equity, margin and free margin of a buy of 3 at 1,001 and a sell of 1
 // at 1,003, of size 1 and leverage 7, with 100 paid in: margins 429 and 144.
@@ -38,22 +99,16 @@ fn hedged_values(rt: HostRuntime) {
         };
         market.list(1, listing);
         market.set_prices(1, Prices { bid, ask });
+        let kinds = unit_kinds();
+        let valuation = Valuation::new(&kinds, &market);
         let mut account = Account::new(7, 0);
         account.pay_in(100);
-        let bought = TicketState::Position {
-            side: Side::Buy,
-            price: 1_001,
-        };
-        let sold = TicketState::Position {
-            side: Side::Sell,
-            price: 1_003,
-        };
-        let _ = account.add(1, 3, NO_PROTECTION, bought);
-        let _ = account.add(1, 1, NO_PROTECTION, sold);
-        assert_eq!(rt; equity(&unit_kinds(), &market, &account), worth);
-        assert_eq!(rt; margin(&unit_kinds(), &market, &account), needed);
-        assert_eq!(rt; free_margin(&unit_kinds(), &market, &account), free);
-        assert_eq!(rt; heaviest(&unit_kinds(), &market, &account), Some(1));
+        let _ = account.add(BOUGHT);
+        let _ = account.add(SOLD);
+        assert_eq!(rt; valuation.equity(&account), worth);
+        assert_eq!(rt; valuation.margin(&account), needed);
+        assert_eq!(rt; valuation.free_margin(&account), free);
+        assert_eq!(rt; valuation.heaviest(&account), Some(1));
     }
 }
 
@@ -80,24 +135,18 @@ fn several_instruments(rt: HostRuntime) {
         };
         market.set_prices(instrument, prices);
     }
+    let kinds = unit_kinds();
+    let valuation = Valuation::new(&kinds, &market);
     let mut account = Account::new(1, 0);
-    assert_eq!(rt; heaviest(&unit_kinds(), &market, &account), None);
-    assert_eq!(rt; margin(&unit_kinds(), &market, &account), 0);
-    let bought = TicketState::Position {
-        side: Side::Buy,
-        price: 1_000,
-    };
-    let sold = TicketState::Position {
-        side: Side::Sell,
-        price: 1_000,
-    };
-    let _ = account.add(1, 1, NO_PROTECTION, bought);
-    let _ = account.add(1, 3, NO_PROTECTION, sold);
-    assert_eq!(rt; margin(&unit_kinds(), &market, &account), 350);
-    assert_eq!(rt; heaviest(&unit_kinds(), &market, &account), Some(2));
-    let _ = account.add(8, 5, NO_PROTECTION, bought);
-    let _ = account.add(8, 5, NO_PROTECTION, sold);
-    assert_eq!(rt; margin(&unit_kinds(), &market, &account), 850);
-    assert_eq!(rt; equity(&unit_kinds(), &market, &account), 0);
-    assert_eq!(rt; free_margin(&unit_kinds(), &market, &account), -850);
+    assert_eq!(rt; valuation.heaviest(&account), None);
+    assert_eq!(rt; valuation.margin(&account), 0);
+    let _ = account.add(BOUGHT_EVEN);
+    let _ = account.add(SOLD_EVEN);
+    assert_eq!(rt; valuation.margin(&account), 350);
+    assert_eq!(rt; valuation.heaviest(&account), Some(2));
+    let _ = account.add(BOUGHT_ON_8);
+    let _ = account.add(SOLD_ON_8);
+    assert_eq!(rt; valuation.margin(&account), 850);
+    assert_eq!(rt; valuation.equity(&account), 0);
+    assert_eq!(rt; valuation.free_margin(&account), -850);
 }

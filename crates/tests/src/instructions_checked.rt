@@ -2,11 +2,17 @@
 use instructions::checked::CheckedInstruction;
 use instructions::submission::{
     Submission, SubmittedClosing, SubmittedModification, SubmittedOpening, SubmittedPlacement,
+    SubmittedProtection,
 };
 use terms::order::OrderType;
 use terms::side::Side;
 
 const TIME: u32 = 100;
+
+const UNPROTECTED: SubmittedProtection = SubmittedProtection {
+    stop_loss: 0,
+    take_profit: 0,
+};
 
 // Instrument, volume, price, deviation, stop loss, take profit, and whether the opening is accepted.
 const OPENINGS: [(u64, u64, u64, u64, u64, u64, bool); 12] = [
@@ -33,11 +39,13 @@ fn openings(rt: HostRuntime) {
             volume,
             price,
             deviation,
-            stop_loss,
-            take_profit,
+            protection: SubmittedProtection {
+                stop_loss,
+                take_profit,
+            },
         });
         assert_eq!(rt;
-            CheckedInstruction::from_submission(submission, TIME).is_some(),
+            CheckedInstruction::from_submission(submission, TIME).is_ok(),
             accepted
         );
     }
@@ -61,12 +69,11 @@ fn placements(rt: HostRuntime) {
             order: OrderType::SellStop,
             volume: 1,
             level,
-            stop_loss: 0,
-            take_profit: 0,
+            protection: UNPROTECTED,
             expiry,
         });
         assert_eq!(rt;
-            CheckedInstruction::from_submission(submission, TIME).is_some(),
+            CheckedInstruction::from_submission(submission, TIME).is_ok(),
             accepted
         );
     }
@@ -88,21 +95,20 @@ fn tickets(rt: HostRuntime) {
         let modify = Submission::Modify(SubmittedModification {
             ticket,
             level,
-            stop_loss: 0,
-            take_profit: 0,
+            protection: UNPROTECTED,
         });
         let close = Submission::Close(SubmittedClosing { ticket, volume });
         let delete = Submission::Delete(ticket);
         assert_eq!(rt;
-            CheckedInstruction::from_submission(modify, TIME).is_some(),
+            CheckedInstruction::from_submission(modify, TIME).is_ok(),
             modified
         );
         assert_eq!(rt;
-            CheckedInstruction::from_submission(close, TIME).is_some(),
+            CheckedInstruction::from_submission(close, TIME).is_ok(),
             closed
         );
         assert_eq!(rt;
-            CheckedInstruction::from_submission(delete, TIME).is_some(),
+            CheckedInstruction::from_submission(delete, TIME).is_ok(),
             deleted
         );
     }

@@ -1,5 +1,6 @@
 // What the unit's kinds admit, pay and need, inside the limits and outside.
 use joined::unit::{unit_admitted, unit_margin, unit_payment};
+use kinds::deal::{Deal, Holding};
 use terms::contract::Contract;
 use terms::side::Side;
 
@@ -57,7 +58,12 @@ fn margins(rt: HostRuntime) {
             size,
             percentage,
         };
-        assert_eq!(rt; unit_margin(contract, leverage, price, volume), margin);
+        let holding = Holding {
+            leverage,
+            opened: price,
+            volume,
+        };
+        assert_eq!(rt; unit_margin(contract, holding), margin);
     }
 }
 
@@ -82,11 +88,17 @@ fn payments(rt: HostRuntime) {
             size,
             percentage,
         };
-        assert_eq!(rt;
-            unit_payment(contract, Side::Buy, opened, closed, volume),
-            buy
-        );
-        let sell = unit_payment(contract, Side::Sell, opened, closed, volume);
-        assert_eq!(rt; sell.checked_neg(), Some(buy));
+        let bought = Deal {
+            side: Side::Buy,
+            opened,
+            closed,
+            volume,
+        };
+        assert_eq!(rt; unit_payment(contract, bought), buy);
+        let sold = Deal {
+            side: Side::Sell,
+            ..bought
+        };
+        assert_eq!(rt; unit_payment(contract, sold).checked_neg(), Some(buy));
     }
 }

@@ -1,111 +1,63 @@
 // Each limit at its two ends, and one past them.
-use limits::{
-    is_account, is_day, is_distance, is_instrument, is_kind, is_leverage, is_payment,
-    is_percentage, is_price, is_rate, is_size, is_ticket, is_time, is_volume,
-};
+use limits::{Quantity, is_rate};
 use terms::quote::{Prices, Quote};
+
+// A quantity, and a number below its least, its least, its most, and a number above it.
+const COUNTED_FROM_ONE: [(Quantity, [u64; 4]); 6] = [
+    (Quantity::Account, [0, 1, 8, 9]),
+    (Quantity::Instrument, [0, 1, 8, 9]),
+    (Quantity::Volume, [0, 1, 10_000, 10_001]),
+    (Quantity::Leverage, [0, 1, 500, 501]),
+    (Quantity::Day, [0, 1, 10_000, 10_001]),
+    (Quantity::Ticket, [0, 1, 9_999, 10_000]),
+];
 
 #[test]
 fn numbers_counted_from_one(rt: HostRuntime) {
-    assert_eq!(rt;
-        [is_account(0), is_account(1), is_account(8), is_account(9)],
-        [false, true, true, false]
-    );
-    assert_eq!(rt;
-        [
-            is_instrument(0),
-            is_instrument(1),
-            is_instrument(8),
-            is_instrument(9),
-        ],
-        [false, true, true, false]
-    );
-    assert_eq!(rt;
-        [
-            is_volume(0),
-            is_volume(1),
-            is_volume(10_000),
-            is_volume(10_001),
-        ],
-        [false, true, true, false]
-    );
-    assert_eq!(rt;
-        [
-            is_leverage(0),
-            is_leverage(1),
-            is_leverage(500),
-            is_leverage(501),
-        ],
-        [false, true, true, false]
-    );
-    assert_eq!(rt;
-        [is_day(0), is_day(1), is_day(10_000), is_day(10_001)],
-        [false, true, true, false]
-    );
-    assert_eq!(rt;
-        [
-            is_ticket(0),
-            is_ticket(1),
-            is_ticket(9_999),
-            is_ticket(10_000),
-        ],
-        [false, true, true, false]
-    );
+    for (quantity, numbers) in COUNTED_FROM_ONE {
+        assert_eq!(rt;
+            numbers.map(|n| quantity.admits(n)),
+            [false, true, true, false]
+        );
+    }
 }
+
+const PRICES_AND_MONEY: [(Quantity, [u64; 4]); 2] = [
+    (Quantity::Price, [999, 1_000, 1_000_000, 1_000_001]),
+    (
+        Quantity::Payment,
+        [0, 1, 1_000_000_000_000, 1_000_000_000_001],
+    ),
+];
 
 #[test]
 fn prices_and_money(rt: HostRuntime) {
+    for (quantity, numbers) in PRICES_AND_MONEY {
+        assert_eq!(rt;
+            numbers.map(|n| quantity.admits(n)),
+            [false, true, true, false]
+        );
+    }
     assert_eq!(rt;
-        [
-            is_price(999),
-            is_price(1_000),
-            is_price(1_000_000),
-            is_price(1_000_001),
-        ],
-        [false, true, true, false]
-    );
-    assert_eq!(rt;
-        [
-            is_payment(0),
-            is_payment(1),
-            is_payment(1_000_000_000_000),
-            is_payment(1_000_000_000_001),
-        ],
-        [false, true, true, false]
-    );
-    assert_eq!(rt;
-        [
-            is_rate(-10_001),
-            is_rate(-10_000),
-            is_rate(10_000),
-            is_rate(10_001),
-        ],
+        [-10_001, -10_000, 10_000, 10_001].map(is_rate),
         [false, true, true, false]
     );
 }
 
+// A quantity, 0, its most, and a number above it.
+const COUNTED_FROM_ZERO: [(Quantity, [u64; 3]); 5] = [
+    (Quantity::Percentage, [0, 100, 101]),
+    (Quantity::Distance, [0, 10_000, 10_001]),
+    (Quantity::Time, [0, 2_000_000_000, 2_000_000_001]),
+    (Quantity::Kind, [0, 255, 256]),
+    (Quantity::Size, [0, 1_000_000, 1_000_001]),
+];
+
 #[test]
 fn numbers_counted_from_zero(rt: HostRuntime) {
-    assert_eq!(rt;
-        [is_percentage(0), is_percentage(100), is_percentage(101)],
-        [true, true, false]
-    );
-    assert_eq!(rt;
-        [is_distance(0), is_distance(10_000), is_distance(10_001)],
-        [true, true, false]
-    );
-    assert_eq!(rt;
-        [is_time(0), is_time(2_000_000_000), is_time(2_000_000_001)],
-        [true, true, false]
-    );
-    assert_eq!(rt;
-        [is_kind(0), is_kind(255), is_kind(256)],
-        [true, true, false]
-    );
-    assert_eq!(rt;
-        [is_size(0), is_size(1_000_000), is_size(1_000_001)],
-        [true, true, false]
-    );
+    for (quantity, numbers) in COUNTED_FROM_ZERO {
+        assert_eq!(rt; numbers.map(|n| quantity.admits(n)), [true, true, false]);
+    }
 }
 
 // Bid, ask, and whether they make a quote.
@@ -122,7 +74,7 @@ const QUOTES: [(u32, u32, bool); 7] = [
 #[test]
 fn quotes(rt: HostRuntime) {
     for (bid, ask, made) in QUOTES {
-        let quote = Quote::from_prices(Prices { bid, ask });
-        assert_eq!(rt; quote.is_some(), made);
+        let quote = Quote::try_from(Prices { bid, ask });
+        assert_eq!(rt; quote.is_ok(), made);
     }
 }
