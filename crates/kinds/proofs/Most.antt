@@ -1,4 +1,4 @@
--- Sizes of amounts, for whoever sums them: of gains, and of what a position is worth.
+-- Sizes of amounts, for whoever sums them: of gains, and of a margin.
 use Rattle.std.proofs.Common.{◌≡◌, ℕ, ◌*◌, ◌^◌, ◌<◌, ◌≤◌, ◌+◌, ◌-◌, Bool, true, ℤ, pos, negsuc, FitsSigned, unsigned_abs, arith}
 use Rattle.std.specs.Int.{w64}
 use Rattle.std.proofs.lemmas.Nat.{mul-le}
@@ -17,13 +17,6 @@ gain_most o k u m ho hk hu = omega (arith, gain_size o k u, mul-le ((k - o) + (o
 
 pub gain_fits : (o k u : ℕ) → o ≤ 1000000 → k ≤ 1000000 → u < 2 ^ 32 → FitsSigned w64 (gained o k u)
 gain_fits o k u ho hk hu = fits (gained o k u) (omega (arith, gain_most o k u (2 ^ 32) ho hk (omega arith)))
-
--- volume × open × size
-pub worth_most : (v o s : ℕ) → v ≤ 10000 → o ≤ 1000000 → s ≤ 100 → v * o * s ≤ 1000000000000
-worth_most v o s hv ho hs = grind arith
-
-pub worth_least : (v o s : ℕ) → 1 ≤ v → 1 ≤ o → 1 ≤ s → 1 ≤ v * o * s
-worth_least v o s hv ho hs = grind arith
 
 -- a margin of n / d, rounded up
 pub margined_needed : (admitted : Bool) (n d l o v : ℕ) → admitted ≡ true → Leverage l → Price o → Volume v → 0 < d → 1 ≤ n → n ≤ 1000000000000 * d → (1 ≤ needed admitted (rounded_up n d) l o v) × (needed admitted (rounded_up n d) l o v ≤ 1000000000000)

@@ -23,14 +23,24 @@ converted_most o k v s ho hk hs =
 rounded_amount : (n d : ℕ) → 0 < d → 1 ≤ n → n ≤ 1000000000000 * d → (1 ≤ rounded_up n d) × (rounded_up n d ≤ 1000000000000)
 rounded_amount n d h low high = (rounded_least n d h low, rounded_most n d 1000000000000 h high)
 
+-- volume × open × size
+pub worth_most : (v o s : ℕ) → v ≤ 10000 → o ≤ 1000000 → s ≤ 100 → v * o * s ≤ 1000000000000
+worth_most v o s hv ho hs = grind arith
+
+pub worth_least : (v o s : ℕ) → 1 ≤ v → 1 ≤ o → 1 ≤ s → 1 ≤ v * o * s
+worth_least v o s hv ho hs = grind arith
+
 -- the amounts of direct, indirect and share
 pub worth_amount : (l o v s : ℕ) → Leverage l → Price o → Volume v → (1 ≤ s) × (s ≤ 100) → (1 ≤ rounded_up (v * o * s) l) × (rounded_up (v * o * s) l ≤ 1000000000000)
-worth_amount l o v s hl ho hv hs = rounded_amount (v * o * s) l (omega arith) (grind arith) (grind arith)
+worth_amount l o v s hl ho hv hs =
+    let most = worth_most v o s hv.1 ho.1 hs.1 in
+    rounded_amount (v * o * s) l hl.0 (worth_least v o s hv.0 (omega arith) hs.0) (omega arith)
 
 pub units_amount : (l v s : ℕ) → Leverage l → Volume v → (1 ≤ s) × (s ≤ 100000) → (1 ≤ rounded_up (v * s) l) × (rounded_up (v * s) l ≤ 1000000000000)
 units_amount l v s hl hv hs = rounded_amount (v * s) l (omega arith) (grind arith) (grind arith)
 
 pub share_amount : (o v s p : ℕ) → Price o → Volume v → (1 ≤ s) × (s ≤ 100) → (1 ≤ p) × (p ≤ 100) → (1 ≤ rounded_up (v * o * s * p) 100) × (rounded_up (v * o * s * p) 100 ≤ 1000000000000)
 share_amount o v s p ho hv hs hp =
-    let w : (1 ≤ v * o * s) × (v * o * s ≤ 1000000000000) = (grind arith, grind arith) in
-    rounded_amount (v * o * s * p) 100 (omega arith) (mul-le 1 1 (v * o * s) p w.0 hp.0) (mul-le (v * o * s) p 1000000000000 100 w.1 hp.1)
+    let least = worth_least v o s hv.0 (omega arith) hs.0 in
+    let most = worth_most v o s hv.1 ho.1 hs.1 in
+    rounded_amount (v * o * s * p) 100 (omega arith) (mul-le 1 1 (v * o * s) p least hp.0) (mul-le (v * o * s) p 1000000000000 100 most hp.1)

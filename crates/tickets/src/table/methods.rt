@@ -63,7 +63,7 @@ impl Table {
     }
 
     // Gives the next number to a new ticket, and answers it.
-    #[tactic(auto, using(crate::proofs::Changes::sound_pushed))]
+    #[tactic(auto, using(crate::proofs::Changes::sound_after_push))]
     pub fn add(&mut self, details: TicketDetails) -> u16
         requires place { length (live self.old) < 32 }
         requires number { self.old.used < 9999 }
