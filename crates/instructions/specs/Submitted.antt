@@ -1,7 +1,7 @@
 -- A submitted instruction, and the check of its numbers.
 use Rattle.std.specs.Prelude.{◌≡◌, ℕ, Bool, true, cond, ◌&&◌, Some, None, Ok, Err, Option, Result, ◌==◌, nat_lt}
 use Rattle.terms.specs.declared.refusal.Refusal.{Refusal}
-use Rattle.terms.specs.declared.refusal.Refusal.TheVariants.{OutsideLimits}
+use Rattle.terms.specs.Checks.{checked}
 use Rattle.terms.specs.declared.protection.Protection.{Protection}
 use Rattle.instructions.specs.declared.instruction.Opening.{Opening}
 use Rattle.instructions.specs.declared.instruction.Closing.{Closing}
@@ -18,10 +18,6 @@ use Rattle.instructions.specs.declared.submission.Submission.TheVariants.{Open, 
 use Rattle.instructions.specs.declared.checked.CheckedInstruction.{CheckedInstruction}
 use Rattle.terms.specs.Protections.{optionally}
 use Rattle.instructions.specs.Inside.{inside}
-
--- the value, if it passes
-abbrev pub checked : {X : Type 0} → (X → Bool) → X → Result X Refusal
-checked ok x = cond (ok x) (Ok x) (Err OutsideLimits)
 
 -- what there is passes
 abbrev pub Passing : {X : Type 0} → (X → Bool) → Result X Refusal → Type 0

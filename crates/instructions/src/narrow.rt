@@ -2,9 +2,10 @@
 ghost use Rattle.std.specs.Prelude.{◌≡◌, ℕ, ◌^◌, ◌<◌, true, ◌&&◌, nat_lt};
 ghost use Rattle.limits.specs.Quantities.{admits};
 ghost use Rattle.limits.specs.Bounds.{instrument_ok, ticket_ok, time_ok};
+ghost use Rattle.terms.specs.Checks.{checked};
 ghost use Rattle.terms.specs.Protections.{optionally, protection_ok};
 ghost use Rattle.instructions.specs.Inside.{inside, opening_ok, closing_ok, placement_ok, modification_ok};
-ghost use Rattle.instructions.specs.Submitted.{checked, passes, Checks, Passing, as_numbers, optional, protection_of, opening_of, closing_of, placement_of, modification_of};
+ghost use Rattle.instructions.specs.Submitted.{passes, Checks, Passing, as_numbers, optional, protection_of, opening_of, closing_of, placement_of, modification_of};
 
 use crate::instruction::{Closing, Instruction, Modification, Opening, Placement};
 use crate::submission::{

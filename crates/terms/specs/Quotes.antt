@@ -1,12 +1,12 @@
 -- Which prices make a quote, and at which of them deals are made.
-use Rattle.std.specs.Prelude.{◌≡◌, ℕ, Bool, cond, ◌&&◌, Ok, Err, Result, nat_le}
+use Rattle.std.specs.Prelude.{◌≡◌, ℕ, Bool, ◌&&◌, Result, nat_le}
 use Rattle.std.specs.Result.{result_map_both}
 use Rattle.terms.specs.declared.side.Side.{Side}
 use Rattle.terms.specs.declared.side.Side.TheVariants.{Buy, Sell}
 use Rattle.terms.specs.declared.quote.Prices.{Prices}
 use Rattle.terms.specs.declared.quote.Quote.{Quote}
 use Rattle.terms.specs.declared.refusal.Refusal.{Refusal}
-use Rattle.terms.specs.declared.refusal.Refusal.TheVariants.{OutsideLimits}
+use Rattle.terms.specs.Checks.{checked}
 use Rattle.limits.specs.Bounds.{price_ok}
 
 -- both prices are inside the limits, and the bid is at most the ask
@@ -19,7 +19,7 @@ prices_of q = q.prices
 
 -- the quote of these prices, where they make one
 abbrev pub QuoteOf : Prices → Result Quote Refusal → Type 0
-QuoteOf p r = result_map_both prices_of (λ (e : Refusal). e) r ≡ cond (quotable p) (Ok p) (Err OutsideLimits)
+QuoteOf p r = result_map_both prices_of (λ (e : Refusal). e) r ≡ checked quotable p
 
 abbrev pub opening_price : Side → Prices → ℕ
 opening_price Buy p = p.ask

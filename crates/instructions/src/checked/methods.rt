@@ -1,8 +1,9 @@
 // How a checked instruction is made, and read.
 ghost use Rattle.std.specs.Prelude.{◌≡◌, true};
 ghost use Rattle.std.specs.Result.{result_map_both};
+ghost use Rattle.terms.specs.Checks.{checked};
 ghost use Rattle.instructions.specs.Inside.{inside};
-ghost use Rattle.instructions.specs.Submitted.{checked, passes, as_numbers, instructed};
+ghost use Rattle.instructions.specs.Submitted.{passes, as_numbers, instructed};
 
 use crate::checked::CheckedInstruction;
 use crate::instruction::Instruction;
