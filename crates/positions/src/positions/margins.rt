@@ -20,7 +20,7 @@ fn hedged(share: u8, buys: u64, sells: u64) -> u64
 }
 
 impl Positions {
-    // The margins of an instrument's positions of one side, together, by `for`: `sum` cannot use a bound on each that the type gives.
+    // The margins of an instrument's positions of one side, together.
     fn side_margin(&self, instrument: u8, side: Side) -> u64
         ensures value { result ≡ side_margin instrument side (held self.now) }
         ensures bound { result ≤ 32000000000000 }

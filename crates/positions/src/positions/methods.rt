@@ -63,7 +63,7 @@ impl Positions {
         self.list.len()
     }
 
-    // The floating results together, by `for`: `sum` has no bound for signed numbers.
+    // The floating results together.
     pub fn floating(&self) -> i64
         ensures value { result ≡ floating (held self.now) }
         ensures bound { Within result 32000000000000 }
