@@ -17,6 +17,14 @@ impl<T: Copy, const N: usize> FixedList<T, N> {
         }
     }
 
+    // A list of no items in the places of an array: for a caller that fills one of a constant in one write.
+    pub fn new_in(places: [T; N]) -> Self
+        ensures { items result ≡ [] }
+    {
+        let count = 0;
+        FixedList { places, count }
+    }
+
     pub fn len(&self) -> usize
         ensures value { result ≡ length (items self.now) }
         ensures few { result ≤ N }
@@ -32,13 +40,14 @@ impl<T: Copy, const N: usize> FixedList<T, N> {
         &self.places[..self.count]
     }
 
-    // Puts an item behind the others.
+    // Puts an item behind the others. The count is read once: read again behind the write, it would wait for it.
     pub fn push(&mut self, item: T)
         requires { length (items self.old) < N }
         ensures { items self.new ≡ items self.old ++ item ∷ [] }
     {
-        self.places[self.count] = item;
-        self.count += 1;
+        let count = self.count;
+        self.places[count] = item;
+        self.count = count + 1;
     }
 
     // Puts an item in the place of another.

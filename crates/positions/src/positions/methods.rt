@@ -11,6 +11,7 @@ use crate::positions::Positions;
 use fixed::FixedList;
 use limits::LIVE_TICKETS;
 use rules::candidate::Candidate;
+use std::cmp::Reverse;
 use terms::side::Side;
 
 // What a free place holds.
@@ -80,20 +81,20 @@ impl Positions {
         ensures value { items result ≡ candidates (held self.now) }
         ensures told { 0 < length (held self.now) → Told (items result) }
     {
-        let mut list = FixedList::new(NO_CANDIDATE);
+        let mut list = FixedList::new_in([NO_CANDIDATE; LIVE_TICKETS]);
         for &position in self.held() {
             list.push(position.into());
         }
         list
     }
 
-    // The ticket of a position of largest margin.
+    // The ticket of a position of largest margin, and of equals the first.
     pub fn heaviest(&self) -> Option<u16>
         ensures { Heaviest (held self.now) result }
     {
         self.held()
             .iter()
-            .max_by_key(|position| position.margin)
+            .min_by_key(|position| Reverse(position.margin))
             .map(|position| position.ticket)
     }
 }
