@@ -1,12 +1,16 @@
 // Which of an account's positions a stop-out closes first.
-ghost use Rattle.std.specs.Prelude.{◌≡◌, ◌<◌, length};
-ghost use Rattle.rules.specs.Closing.{Picks, Told, NamesOne, worst_first, earliest_first};
+ghost use Rattle.std.specs.Prelude.{◌≡◌, ◌<◌, ◌≤◌, length, nat_lt};
+ghost use Rattle.fixed.specs.Items.{items};
+ghost use Rattle.rules.specs.Closing.{Picks, Told, NamesOne, tickets, worst_first, earliest_first};
+ghost use Rattle.rules.specs.Least.{first_least};
 ghost use Rattle.rules.specs.Named.{at};
 ghost use Rattle.rules.specs.Lemmas.Orders.{worst_is};
 ghost use Rattle.rules.specs.Lemmas.Tickets.{first_names_one};
 
 use crate::candidate::Candidate;
 use crate::least::first_least;
+use fixed::FixedList;
+use limits::LIVE_TICKETS;
 
 // A rule's meaning is the place that it names, as a function of the list that it is told.
 pub trait ClosingRule {
@@ -51,10 +55,8 @@ impl ClosingRule for EarliestFirst {
 
     ghost within = { λ _. first_names_one };
 
-    // A rule is told of candidates by rising ticket, so the first has the lowest.
-    #[tactic(auto, using(crate::specs::Lemmas::Tickets::first_is_earliest))]
-    fn pick(&self, _candidates: &[Candidate]) -> usize {
-        0
+    fn pick(&self, candidates: &[Candidate]) -> usize {
+        lowest_number(ticket_numbers(candidates).as_slice())
     }
 }
 
@@ -63,4 +65,23 @@ fn smallest_result(candidates: &[Candidate]) -> usize
     ensures { result ≡ worst_first candidates.now }
 {
     first_least(candidates)
+}
+
+fn lowest_number(numbers: &[u16]) -> usize
+    requires { 0 < length numbers.now }
+    ensures { result ≡ first_least nat_lt numbers.now }
+{
+    first_least(numbers)
+}
+
+// The candidates' ticket numbers: a type has one order, and candidates have that by result.
+fn ticket_numbers(candidates: &[Candidate]) -> FixedList<u16, LIVE_TICKETS>
+    requires { length candidates.now ≤ 32 }
+    ensures { items result ≡ tickets candidates.now }
+{
+    let mut numbers = FixedList::new_in([0; LIVE_TICKETS]);
+    for candidate in candidates {
+        numbers.push(candidate.ticket);
+    }
+    numbers
 }
