@@ -17,7 +17,7 @@ impl<T: Copy, const N: usize> FixedList<T, N> {
         }
     }
 
-    // A list of no items in the places of an array: for a caller that fills one of a constant in one write.
+    // A list of no items over an array as it is, which takes less time than `new` where the array is a constant.
     pub fn new_in(places: [T; N]) -> Self
         ensures { items result ≡ [] }
     {
@@ -40,7 +40,7 @@ impl<T: Copy, const N: usize> FixedList<T, N> {
         &self.places[..self.count]
     }
 
-    // Puts an item behind the others. The count is read once: read again behind the write, it would wait for it.
+    // Puts an item behind the others. The count is kept in a local, as it would else be read again after the write.
     pub fn push(&mut self, item: T)
         requires { length (items self.old) < N }
         ensures { items self.new ≡ items self.old ++ item ∷ [] }
